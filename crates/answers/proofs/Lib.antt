@@ -1,3 +1,4 @@
 pub mod Questions
 pub mod Buffers
 pub mod Outcomes
+pub mod Sweeps

@@ -10,7 +10,7 @@ use borrow.Author.Tests.{lt-ltb, le-ltb, ne-eqb}
 use Rattle.counts.specs.Counts.{W, E, up, byHalves, switchRule, entryRule}
 
 module _ (rule : ℕ → ℕ → ℕ → ℕ) where
-  none : (d n : ℕ) → n < 2 → byHalves rule d n ≡ 0
+  pub none : (d n : ℕ) → n < 2 → byHalves rule d n ≡ 0
   unfolding byHalves
   none zero n h = refl
   none (suc d) n h = rw (byHalves, lt-ltb n 2 h)
@@ -34,7 +34,7 @@ module _ (rule : ℕ → ℕ → ℕ → ℕ) where
       go (no l) top bottom =
           rw (more d n (omega arith), more e n (omega arith), top (omega arith) (omega arith), bottom (omega arith) (omega arith))
 
-  halved : (n : ℕ) → 2 ≤ n
+  pub halved : (n : ℕ) → 2 ≤ n
       → byHalves rule n n ≡ rule n (byHalves rule (up n) (up n)) (byHalves rule (n - up n) (n - up n))
   halved n h =
       enough n (suc n) n (omega arith) (omega arith) ∙ more n n h

@@ -1,14 +1,20 @@
--- A table that holds a count at each place, none above a limit: known at every place by one test, which antt computes.
+-- A table that holds a count by halves at each place, none above a limit: known at every place by one test, which antt
+-- computes in one walk over the table. Each number is tested against the rule, of the numbers that stand at its halves.
 -- Assumes nothing.
-use mathlib.Core.Path.{_≡_, _∙_, sym}
+use mathlib.Core.Path.{_≡_, _∙_, sym, ap}
 use mathlib.Core.Bool.{Bool, true, false}
 use mathlib.Core.List.{List, [], _∷_}
-use Prim.Native.Nat.{ℕ, zero, suc, _+_, _≤_, _<_}
+use Prim.Native.Nat.{ℕ, zero, suc, _+_, _-_, _/_, _%_, _≤_, _<_}
 use native.Mathlib.Nat.{add-zero, zero-add, add-suc, suc-add, le-of-suc-le-suc, not-suc-le-zero}
 use native.Mathlib.Omega.{arith}
-use lib.Dec.{T, eqb, leb, eqb→eq, leb→le}
-use lib.ListN.{length, getD}
+use native.Mathlib.Decide.{decLt}
+use lib.Dec.{T, eqb, leb, ltb, eqb→eq, leb→le}
+use lib.ListN.{length, getD, drop}
+use lib.Seq.{getD-drop}
+use borrow.Author.Tests.{lt-ltb, le-ltb}
+use Rattle.counts.specs.Counts.{up, byHalves}
 use Rattle.counts.specs.Table.{StandsAt}
+use Rattle.counts.proofs.Rule.{none, halved}
 
 abbrev pub both : Bool → Bool → Bool
 both true b = b
@@ -22,22 +28,79 @@ both-right : (a b : Bool) → T (both a b) → T b
 both-right true b t = t
 both-right false b t = absurd t
 
-module _ (count : ℕ → ℕ) (limit : ℕ) where
-  -- each number of the list is the count at its place, the first at i, and within the limit
-  abbrev pub agrees : ℕ → List ℕ → Bool
-  agrees i [] = true
-  agrees i (x ∷ xs) = both (both (eqb x (count i)) (leb x limit)) (agrees (suc i) xs)
+-- the count for n places, of the counts of the halves
+abbrev pub counted : (ℕ → ℕ → ℕ → ℕ) → ℕ → ℕ → ℕ → ℕ
+counted rule n top bottom = elim (ltb n 2) [ true ↦ 0 | false ↦ rule n top bottom ]
 
-  from : (xs : List ℕ) (i : ℕ) → T (agrees i xs) → (k : ℕ) → k < length xs
-      → (getD xs k 0 ≡ count (i + k)) × (getD xs k 0 ≤ limit)
-  from [] i t k h = absurd (not-suc-le-zero h)
-  from (x ∷ xs) i t zero h =
-      let now = both-left (both (eqb x (count i)) (leb x limit)) (agrees (suc i) xs) t in
-      rw (add-zero i)
-      (eqb→eq x (count i) (both-left (eqb x (count i)) (leb x limit) now), leb→le x limit (both-right (eqb x (count i)) (leb x limit) now))
-  from (x ∷ xs) i t (suc k) h =
-      rw (add-suc i k, ← suc-add i k)
-      (from xs (suc i) (both-right (both (eqb x (count i)) (leb x limit)) (agrees (suc i) xs) t) k (le-of-suc-le-suc h))
+module _ (rule : ℕ → ℕ → ℕ → ℕ) (limit : ℕ) where
+  abbrev right : ℕ → ℕ → ℕ → ℕ → Bool
+  right n top bottom x = both (eqb x (counted rule n top bottom)) (leb x limit)
 
-  pub holds : {xs : List ℕ} {n r : ℕ} → StandsAt xs n r → T (agrees 0 xs) → n < length xs → (r ≡ count n) × (r ≤ limit)
-  holds {xs} {n} s t h = rw (s .is) (rw (zero-add n) at (from xs 0 t n h))
+  -- the numbers from place n on, with those from place n / 2 on beside them
+  abbrev pub follows : ℕ → List ℕ → List ℕ → Bool
+  follows n [] halves = true
+  follows n (x ∷ rest) halves =
+      both (right n (getD halves (n % 2) 0) (getD halves 0 0) x) (follows (suc n) rest (drop (n % 2) halves))
+
+  abbrev pub tested : List ℕ → Bool
+  tested table = follows 0 table table
+
+  -- what the test says of the number x for n places
+  record Right (table : List ℕ) (n x : ℕ) : Type 0 where
+    pub count : x ≡ counted rule n (getD table (up n) 0) (getD table (n - up n) 0)
+    pub small : x ≤ limit
+
+  from :
+      (table rest halves : List ℕ) (n : ℕ)
+      → ((i : ℕ) → getD halves i 0 ≡ getD table (n / 2 + i) 0)
+      → T (follows n rest halves)
+      → (k : ℕ) → k < length rest → Right table (n + k) (getD rest k 0)
+  from table [] halves n beside t k h = absurd (not-suc-le-zero h)
+  from table (x ∷ rest) halves n beside t zero h =
+      let first = both-left (right n (getD halves (n % 2) 0) (getD halves 0 0) x) (follows (suc n) rest (drop (n % 2) halves)) t in
+      let counts = eqb x (counted rule n (getD halves (n % 2) 0) (getD halves 0 0)) in
+      let top : n / 2 + n % 2 ≡ up n = omega arith in
+      let bottom : n / 2 + 0 ≡ n - up n = omega arith in
+      rw (add-zero n) (record {
+        count =
+            eqb→eq x (counted rule n (getD halves (n % 2) 0) (getD halves 0 0)) (both-left counts (leb x limit) first)
+            ∙ rw (beside (n % 2), beside 0, top, bottom);
+        small = leb→le x limit (both-right counts (leb x limit) first);
+      })
+  from table (x ∷ rest) halves n beside t (suc k) h =
+      rw (add-suc n k, ← suc-add n k)
+      (from table rest (drop (n % 2) halves) (suc n)
+      (λ i. getD-drop (n % 2) halves i 0 ∙ beside (n % 2 + i) ∙ ap (λ (j : ℕ). getD table j 0) (omega arith))
+      (both-right (right n (getD halves (n % 2) 0) (getD halves 0 0) x) (follows (suc n) rest (drop (n % 2) halves)) t)
+      k
+      (le-of-suc-le-suc h))
+
+  at : (table : List ℕ) → T (tested table) → (n : ℕ) → n < length table → Right table n (getD table n 0)
+  at table t n h = rw (zero-add n) at (from table table table 0 (λ i. rw (zero-add i)) t n h)
+
+  below :
+      (table : List ℕ) → T (tested table)
+      → (d n : ℕ) → n < d → n < length table → getD table n 0 ≡ byHalves rule n n
+  below table t zero n g h = absurd (not-suc-le-zero g)
+  below table t (suc d) n g h = go (decLt n 2) (below table t d (up n)) (below table t d (n - up n))
+    where
+      go :
+          Dec (n < 2)
+          → (up n < d → up n < length table → getD table (up n) 0 ≡ byHalves rule (up n) (up n))
+          → (n - up n < d → n - up n < length table → getD table (n - up n) 0 ≡ byHalves rule (n - up n) (n - up n))
+          → getD table n 0 ≡ byHalves rule n n
+      go (yes l) top bottom = at table t n h .count ∙ rw (lt-ltb n 2 l, counted, none rule n n l)
+      go (no l) top bottom =
+          at table t n h .count
+          ∙ rw (
+            le-ltb n 2 (omega arith),
+            counted,
+            top (omega arith) (omega arith),
+            bottom (omega arith) (omega arith),
+            halved rule n (omega arith),
+          )
+
+  pub holds :
+      {table : List ℕ} {n r : ℕ} → StandsAt table n r → T (tested table) → n < length table
+      → (r ≡ byHalves rule n n) × (r ≤ limit)
+  holds {table} {n} s t h = rw (s .is) (below table t (suc n) n (omega arith) h, at table t n h .small)

@@ -1,7 +1,7 @@
 -- `counts::entries` meets its contract: the table is held against the rule by one test, which antt computes.
 -- Assumes nothing.
 use borrow.Author.Needs.{needs}
-use Rattle.counts.specs.Counts.{E, byHalves}
+use Rattle.counts.specs.Counts.{E, entryRule}
 use Rattle.counts.proofs.Table.{holds}
 use Rattle.counts.proofs.entries.Statement.{statement}
 use Rattle.counts.proofs.entries.Tie as tie
@@ -10,8 +10,8 @@ entry-requires : tie.Need-entry-requires
 entry-requires c κs = search needs
 
 returns : tie.Need-returns
-unfolding E byHalves
-returns c = holds E 16381 (c .entry .ensures) tt (search needs)
+unfolding E
+returns c = holds entryRule 16381 (c .entry .ensures) tt (search needs)
 
 pub entries-spec : {M : Type 1} → statement M
 entries-spec = tie.close (tie.spec entry-requires returns)

@@ -1,7 +1,7 @@
 -- `counts::switches` meets its contract: the table is held against the rule by one test, which antt computes.
 -- Assumes nothing.
 use borrow.Author.Needs.{needs}
-use Rattle.counts.specs.Counts.{W, byHalves}
+use Rattle.counts.specs.Counts.{W, switchRule}
 use Rattle.counts.proofs.Table.{holds}
 use Rattle.counts.proofs.switches.Statement.{statement}
 use Rattle.counts.proofs.switches.Tie as tie
@@ -10,8 +10,8 @@ entry-requires : tie.Need-entry-requires
 entry-requires c κs = search needs
 
 returns : tie.Need-returns
-unfolding W byHalves
-returns c = holds W 9217 (c .entry .ensures) tt (search needs)
+unfolding W
+returns c = holds switchRule 9217 (c .entry .ensures) tt (search needs)
 
 pub switches-spec : {M : Type 1} → statement M
 switches-spec = tie.close (tie.spec entry-requires returns)
