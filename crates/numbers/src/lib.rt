@@ -34,6 +34,16 @@ pub fn read_number(input: &[u8], at: usize) -> ReadNumber
     ReadNumber::Number(low % 128 + high * 128, at + 2)
 }
 
+// The answer of a reading, in 01's numbers.
+pub fn answer(r: ReadNumber) -> answers::Answer
+    ensures { λ a. ⌜ a ≡ meaning r .answer ⌝ }
+{
+    match r {
+        ReadNumber::Number(_, _) => answers::accept(0),
+        ReadNumber::Refused(question, place) => answers::refuse(question, place),
+    }
+}
+
 // A read of a slice asks only for the index, where a cast of it would ask too that the byte fits.
 fn wide(x: u8) -> usize
     ensures { λ r. ⌜ r ≡ x ⌝ }

@@ -1,0 +1,79 @@
+use Rattle.codec.proofs.fourteen.Statement.{statement}
+use Rattle.codec.proofs.fourteen.Tie as tie
+use Rattle.codec.proofs.fourteen.Reads as reads
+use Rattle.codec.proofs.fourteen.Lts as lts
+use Rattle.codec.proofs.at_most_fourteen.Reads as at-most-fourteen-reads
+use Rattle.codec.proofs.wide.Reads as wide-reads
+
+abbrev Inv-loop : tie.InvT-loop
+Inv-loop bits from v₀ j₀ v j = ?
+
+abbrev μ-loop : tie.MeasureT-loop
+μ-loop bits from v₀ j₀ v j = ?
+
+-- src/lib.rt:99:34
+sub-at-most-fourteen : tie.Need-sub-at-most-fourteen Inv-loop μ-loop
+sub-at-most-fourteen c = ?
+
+-- src/lib.rt:99:9
+at-most-fourteen-requires : tie.Need-at-most-fourteen-requires Inv-loop μ-loop
+at-most-fourteen-requires c κs = ?
+
+-- src/lib.rt:100:5
+loop-holds : tie.Need-loop-holds Inv-loop μ-loop
+loop-holds c = ?
+
+-- src/lib.rt:101:9
+sub-j : tie.Need-sub-j Inv-loop μ-loop
+sub-j c = ?
+
+-- src/lib.rt:102:13
+mul-v : tie.Need-mul-v Inv-loop μ-loop
+mul-v c = ?
+
+-- src/lib.rt:102:31
+add-wide : tie.Need-add-wide Inv-loop μ-loop
+add-wide c = ?
+
+-- src/lib.rt:102:26
+shared-slice-read-wide : tie.Need-shared-slice-read-wide Inv-loop μ-loop
+shared-slice-read-wide c = ?
+
+-- src/lib.rt:102:21
+wide-requires : tie.Need-wide-requires Inv-loop μ-loop
+wide-requires c κs = ?
+
+-- src/lib.rt:102:13
+add-v : tie.Need-add-v Inv-loop μ-loop
+add-v c = ?
+
+-- src/lib.rt:100:5
+loop-less : tie.Need-loop-less Inv-loop μ-loop
+loop-less c = ?
+
+-- src/lib.rt:100:5
+loop-again : tie.Need-loop-again Inv-loop μ-loop
+loop-again c = ?
+
+-- src/lib.rt:94:1
+returns : tie.Need-returns Inv-loop μ-loop
+returns c = ?
+
+pub fourteen-spec : {M : Type 1} → statement M
+fourteen-spec =
+    tie.close
+    (tie.spec
+    Inv-loop
+    μ-loop
+    sub-at-most-fourteen
+    at-most-fourteen-requires
+    loop-holds
+    sub-j
+    mul-v
+    add-wide
+    shared-slice-read-wide
+    wide-requires
+    add-v
+    loop-less
+    loop-again
+    returns)
