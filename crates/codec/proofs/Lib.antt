@@ -1,1 +1,5 @@
-
+pub mod Unpacking
+pub mod Rows
+pub mod Writing
+pub mod Asking
+pub mod Calls

@@ -221,3 +221,22 @@ value-small input at = go (firstNo (numberQuestions input at)) refl
     go : (w : Verdict) → firstNo (numberQuestions input at) ≡ w → numberAt input at .value < 16384
     go allYes t = rw t (wide (oneByte input at) refl t)
     go (noAt q p) t = rw t (omega arith)
+
+-- ---- the case of a verdict
+
+pub record Got (w : Verdict) (a b v p : ℕ) : Type 0 where
+  pub asked : w ≡ allYes
+  pub value : v ≡ a
+  pub place : p ≡ b
+
+pub got-number : (w : Verdict) (a b : ℕ) {v p : ℕ} → Number v p ≡ readOf w a b → Got w a b v p
+got-number allYes a b {v} {p} e = let z : Number v p ≡ Number a b = e in record { asked = refl; value = cc; place = cc }
+got-number (noAt q m) a b {v} {p} e = absurd (let z : Number v p ≡ Refused q m = e in let y : _≡_ {A = ℕ} 0 1 = cc in omega arith)
+
+pub got-refused : (w : Verdict) (a b : ℕ) {q p : ℕ} → Refused q p ≡ readOf w a b → w ≡ noAt q p
+got-refused allYes a b {q} {p} e = absurd (let z : Refused q p ≡ Number a b = e in let y : _≡_ {A = ℕ} 0 1 = cc in omega arith)
+got-refused (noAt n m) a b {q} {p} e =
+    let z : Refused q p ≡ Refused n m = e in
+    let y : q ≡ n = cc in
+    let x : p ≡ m = cc in
+    rw (y, x)

@@ -1,7 +1,7 @@
 // The number reader: a number in one or two bytes, at a place of an input.
 ghost use mathlib.Core.Path.{_≡_};
 ghost use Rattle.numbers.specs.Numbers.{numberAt};
-ghost use Rattle.numbers.specs.Reading.{meaning};
+ghost use Rattle.numbers.specs.Reading.{meaning, answerOf};
 
 // A number with the place after it, or a refusal: the question and the place of its no.
 pub enum ReadNumber {
@@ -36,7 +36,7 @@ pub fn read_number(input: &[u8], at: usize) -> ReadNumber
 
 // The answer of a reading, in 01's numbers.
 pub fn answer(r: ReadNumber) -> answers::Answer
-    ensures { λ a. ⌜ a ≡ meaning r .answer ⌝ }
+    ensures { λ a. ⌜ a ≡ answerOf r ⌝ }
 {
     match r {
         ReadNumber::Number(_, _) => answers::accept(0),

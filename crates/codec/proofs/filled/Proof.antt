@@ -1,3 +1,7 @@
+use native.Mathlib.Omega.{arith}
+use Prim.Native.Nat.{_-_}
+use lib.ListN.{length}
+use Rattle.codec.proofs.Unpacking.{fill-none, fill-last}
 use borrow.Author.Needs.{needs}
 use Rattle.codec.proofs.filled.Statement.{statement}
 use Rattle.codec.proofs.filled.Tie as tie
@@ -6,7 +10,7 @@ use Rattle.codec.proofs.filled.Lts as lts
 
 -- src/lib.rt:225:9
 returns : tie.Need-returns
-returns c = ?
+returns c = fill-none (c .before .args .values .now) (c .before .args .w) (c .if1 .taken)
 
 -- src/lib.rt:227:25
 sub-own : tie.Need-sub-own
@@ -38,7 +42,7 @@ shr-result c = search needs
 
 -- src/lib.rt:219:1
 returns-2 : tie.Need-returns-2
-returns-2 c = ?
+returns-2 c = fill-last (c .before .before .args .values .now) (c .before .before .args .w) (length (c .before .before .args .values .now) - 1) (omega arith) (omega arith) (omega arith) (c .before .before .pre .2)
 
 pub filled-spec : {M : Type 1} → statement M
 filled-spec =

@@ -1,3 +1,6 @@
+use native.Mathlib.Omega.{arith}
+use lib.ListN.{length-set}
+use Rattle.codec.proofs.Writing.{put-one, put-two}
 use borrow.Author.Needs.{needs}
 use Rattle.codec.proofs.put_number.Statement.{statement}
 use Rattle.codec.proofs.put_number.Tie as tie
@@ -22,7 +25,7 @@ same-length c = search needs
 
 -- src/lib.rt:71:9
 returns : tie.Need-returns
-returns c = ?
+returns c = put-one _ _ _ (c .if1 .taken) (omega arith)
 
 -- src/lib.rt:73:18
 add-second : tie.Need-add-second
@@ -46,7 +49,7 @@ cast-buf-3 c = search needs
 
 -- src/lib.rt:75:5
 slice-write-buf-3 : tie.Need-slice-write-buf-3
-slice-write-buf-3 c = ?
+slice-write-buf-3 c = simp length-set (omega arith)
 
 -- src/lib.rt:76:5
 add-result-2 : tie.Need-add-result-2
@@ -58,7 +61,7 @@ same-length-2 c = search needs
 
 -- src/lib.rt:65:1
 returns-2 : tie.Need-returns-2
-returns-2 c = ?
+returns-2 c = put-two _ _ _ (c .if1 .left) (omega arith)
 
 pub put-number-spec : {M : Type 1} → statement M
 put-number-spec =

@@ -1,17 +1,12 @@
 use borrow.Author.Needs.{needs}
 use mathlib.Core.Path.{sym, ap, _∙_}
-use Rattle.answers.specs.declared.Answer.{Answer}
-use Rattle.numbers.specs.Reading.{meaning}
-use Rattle.numbers.specs.declared.ReadNumber.{ReadNumber}
+use Rattle.numbers.specs.Reading.{answerOf}
 use Rattle.numbers.proofs.answer.Statement.{statement}
 use Rattle.numbers.proofs.answer.Tie as tie
 use Rattle.numbers.proofs.answer.Reads as reads
 use Rattle.numbers.proofs.answer.Lts as lts
 use Rattle.answers.proofs.accept.Reads as accept-reads
 use Rattle.answers.proofs.refuse.Reads as refuse-reads
-
-abbrev answer-of : ReadNumber → Answer
-answer-of r = meaning r .answer
 
 -- src/lib.rt:42:37
 enum-told : tie.Need-enum-told
@@ -31,11 +26,11 @@ refuse-requires c κs = search needs
 
 -- src/lib.rt:38:1
 returns : tie.Need-returns
-returns c = c .accept .ensures ∙ sym (ap answer-of (c .before .enum-told .given .1))
+returns c = c .accept .ensures ∙ sym (ap answerOf (c .before .enum-told .given .1))
 
 -- src/lib.rt:38:1
 returns-2 : tie.Need-returns-2
-returns-2 c = c .refuse .ensures ∙ sym (ap answer-of (c .before .before .r .given .1))
+returns-2 c = c .refuse .ensures ∙ sym (ap answerOf (c .before .before .r .given .1))
 
 pub answer-spec : {M : Type 1} → statement M
 answer-spec =
