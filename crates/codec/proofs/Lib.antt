@@ -3,3 +3,5 @@ pub mod Rows
 pub mod Writing
 pub mod Asking
 pub mod Calls
+pub mod Round
+pub mod Cases
