@@ -6,7 +6,14 @@ use crate::tally::Tally;
 ghost use Prim.Native.Nat.{_≤_};
 
 // A sheet of `length` bytes, read into `room` of 24 bytes: refused so, and no byte is written.
-fn no_sheet(t: Tally, bytes: [u8; 6], length: usize, room: usize, number: usize, place: usize) -> Tally
+fn no_sheet(
+    t: Tally,
+    bytes: [u8; 6],
+    length: usize,
+    room: usize,
+    number: usize,
+    place: usize,
+) -> Tally
     requires { ⌜ (length ≤ 6) × (room ≤ 24) ⌝ }
 {
     let mut bits = [7u8; 24];
@@ -17,7 +24,15 @@ fn no_sheet(t: Tally, bytes: [u8; 6], length: usize, room: usize, number: usize,
 }
 
 // A setting of `count` bytes for n places, written into `room` of 8 bytes: refused so, and no byte is written.
-fn no_setting(t: Tally, n: usize, bytes: [u8; 4], count: usize, room: usize, number: usize, place: usize) -> Tally
+fn no_setting(
+    t: Tally,
+    n: usize,
+    bytes: [u8; 4],
+    count: usize,
+    room: usize,
+    number: usize,
+    place: usize,
+) -> Tally
     requires { ⌜ (count ≤ 4) × (room ≤ 8) ⌝ }
 {
     let mut out = [7u8; 8];

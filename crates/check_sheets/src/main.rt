@@ -48,8 +48,15 @@ fn compare_number(t: Tally, s: &[u8], at: usize) -> Tally {
     let y = plain::number_at(s, at);
     let r = numbers::read_number(s, at);
     match r {
-        ReadNumber::Number(value, next) => tally::tallied(t, same_number(y.number, value, y.value, next, y.next)),
-        ReadNumber::Refused(question, place) => tally::answers(t, plain::answer(question, place, 0), plain::answer(y.number, y.place, 0)),
+        ReadNumber::Number(value, next) => tally::tallied(
+            t,
+            same_number(y.number, value, y.value, next, y.next),
+        ),
+        ReadNumber::Refused(question, place) => tally::answers(
+            t,
+            plain::answer(question, place, 0),
+            plain::answer(y.number, y.place, 0),
+        ),
     }
 }
 
@@ -141,6 +148,17 @@ fn unbits(t: Tally, n: usize, bits: &mut [u8], w: usize, end: usize) -> Tally
     compare_write(t1, n, bits, w, end)
 }
 
+// One setting, and its sheet as the plain writer made it.
+fn round(t: Tally, n: usize, bits: &mut [u8], w: usize, s: &mut [u8], end: usize) -> Tally
+    requires { ⌜ (w ≤ length (now bits)) × (w ≤ 9217) × (end ≤ 1390) × (end < length (now s)) ⌝ }
+{
+    let t1 = writes(t, n, bits, w, end);
+    let t2 = reads(t1, s, end, w);
+    let t3 = back(t2, s, end, bits, w);
+    let t4 = spoilt(t3, s, end, w);
+    unbits(t4, n, bits, w, end)
+}
+
 fn trip(t: Tally, n: usize, seed: u32) -> Tally {
     let w = plain::switches(n);
     if 9217 < w {
@@ -153,11 +171,7 @@ fn trip(t: Tally, n: usize, seed: u32) -> Tally {
     if 1390 < end {
         return tally::tallied(t, false);
     }
-    let t1 = writes(t, n, &bits, w, end);
-    let t2 = reads(t1, &s, end, w);
-    let t3 = back(t2, &s, end, &bits, w);
-    let t4 = spoilt(t3, &mut s, end, w);
-    unbits(t4, n, &mut bits, w, end)
+    round(t, n, &mut bits, w, &mut s, end)
 }
 
 // Every n from 0 to 1,024: 14 divides the count of 7, 23 and 259; from 128 on n takes two bytes.

@@ -1,6 +1,6 @@
 // The calls, each on the first bytes of two buffers.
-use answers::Answer;
 use crate::plain;
+use answers::Answer;
 ghost use Prim.Native.Nat.{_≤_};
 ghost use lib.ListN.{length};
 

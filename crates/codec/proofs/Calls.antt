@@ -125,34 +125,34 @@ module _ (input : List ℕ) (room : ℕ) {head : ReadNumber} (e : head ≡ readO
     head-fits = rw (head-got .value) (head-sized input room (head-got .asked) .fits)
 
     module _
-      {w : ℕ} {values : List ℕ} {body : ReadNumber} (c : w ≡ W n)
-      (R : Row (bodyQuestions input w at) (numbersFor w) (placePast (numbersFor w) input at) (numbersFor w) (numbersAt (numbersFor w) input at) values body)
+        {w : ℕ} {values : List ℕ} {body : ReadNumber} (c : w ≡ W n)
+        (R : Row (bodyQuestions input w at) (numbersFor w) (placePast (numbersFor w) input at) (numbersFor w) (numbersAt (numbersFor w) input at) values body)
       where
-      same : bodyQuestions input w at ≡ bodyQuestions input (W (placesIn input)) (fourteensAt input)
-      same = rw (c, head-got .value, head-got .place)
+        same : bodyQuestions input w at ≡ bodyQuestions input (W (placesIn input)) (fourteensAt input)
+        same = rw (c, head-got .value, head-got .place)
 
-      to-body : firstNo (readQuestions input room) ≡ firstNo (bodyQuestions input w at)
-      unfolding readQuestions
-      to-body = asked-both (headQuestions input room) (bodyQuestions input (W (placesIn input)) (fourteensAt input)) (head-got .asked) ∙ sym (ap firstNo same)
+        to-body : firstNo (readQuestions input room) ≡ firstNo (bodyQuestions input w at)
+        unfolding readQuestions
+        to-body = asked-both (headQuestions input room) (bodyQuestions input (W (placesIn input)) (fourteensAt input)) (head-got .asked) ∙ sym (ap firstNo same)
 
-      pub body-stops : {q p : ℕ} → body ≡ Refused q p → firstNo (readQuestions input room) ≡ noAt q p
-      body-stops s = to-body ∙ got-refused (firstNo (bodyQuestions input w at)) (numbersFor w) (placePast (numbersFor w) input at) (sym s ∙ R .answer)
+        pub body-stops : {q p : ℕ} → body ≡ Refused q p → firstNo (readQuestions input room) ≡ noAt q p
+        body-stops s = to-body ∙ got-refused (firstNo (bodyQuestions input w at)) (numbersFor w) (placePast (numbersFor w) input at) (sym s ∙ R .answer)
 
-      module _ {k end : ℕ} (s : body ≡ Number k end) where
-        body-got : Got (firstNo (bodyQuestions input w at)) (numbersFor w) (placePast (numbersFor w) input at) k end
-        body-got = got-number (firstNo (bodyQuestions input w at)) (numbersFor w) (placePast (numbersFor w) input at) (sym s ∙ R .answer)
+        module _ {k end : ℕ} (s : body ≡ Number k end) where
+          body-got : Got (firstNo (bodyQuestions input w at)) (numbersFor w) (placePast (numbersFor w) input at) k end
+          body-got = got-number (firstNo (bodyQuestions input w at)) (numbersFor w) (placePast (numbersFor w) input at) (sym s ∙ R .answer)
 
-        pub read-passes : firstNo (readQuestions input room) ≡ allYes
-        read-passes = to-body ∙ body-got .asked
+          pub read-passes : firstNo (readQuestions input room) ≡ allYes
+          read-passes = to-body ∙ body-got .asked
 
-        pub read-count : n ≡ placesIn input
-        read-count = head-got .value
+          pub read-count : n ≡ placesIn input
+          read-count = head-got .value
 
-        pub read-bits : take w (bitsIn (take k values)) ≡ setting input
-        unfolding bitsFrom
-        read-bits =
-            let row : take k values ≡ numbersAt (numbersFor w) input at = rw (body-got .value) (R .numbers (body-got .asked)) in
-            rw row (rw (c, head-got .value, head-got .place))
+          pub read-bits : take w (bitsIn (take k values)) ≡ setting input
+          unfolding bitsFrom
+          read-bits =
+              let row : take k values ≡ numbersAt (numbersFor w) input at = rw (body-got .value) (R .numbers (body-got .asked)) in
+              rw row (rw (c, head-got .value, head-got .place))
 
 -- how many numbers a row has put there
 pub row-count :

@@ -81,9 +81,14 @@ module _ (n : ℕ) (bits : List ℕ) (few : n ≤ 1024) (count : length bits ≡
   unfolding front
   whole =
       let place : placePast (numbersFor (W n)) (sheet n bits) (length front) ≡ length front + length (numbersBytes numbers) = rw long at (row-there .place) in
-      omega
-      (arith, place, ap length shape, length-append (numberBytes 1) (numberBytes n ++ numbersBytes numbers),
-      length-append (numberBytes n) (numbersBytes numbers), length-append (numberBytes 1) (numberBytes n))
+      omega (
+        arith,
+        place,
+        ap length shape,
+        length-append (numberBytes 1) (numberBytes n ++ numbersBytes numbers),
+        length-append (numberBytes n) (numbersBytes numbers),
+        length-append (numberBytes 1) (numberBytes n),
+      )
 
   pub sheet-read : (buffer : List ℕ) → W n ≤ length buffer → readSheet (sheet n bits) buffer ≡ outcome (accepted n) (overlay buffer 0 bits)
   unfolding numbers

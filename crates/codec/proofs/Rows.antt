@@ -58,66 +58,66 @@ reading-starts input start k before =
     record { within = omega arith; same = refl; left = rw z; from = refl; here = refl; got = refl }
 
 module _
-  (input : List ℕ) (start k : ℕ) (before values : List ℕ) (last at j : ℕ)
-  (R : Reading input start k before values last at j)
+    (input : List ℕ) (start k : ℕ) (before values : List ℕ) (last at j : ℕ)
+    (R : Reading input start k before values last at j)
   where
-  next-asked : (m : ℕ) → k - j ≡ suc m → numbersQuestions (k - j) input at ≡ numberQuestions input at ++ numbersQuestions m input (numberAt input at .next)
-  unfolding numbersQuestions
-  next-asked m e = rw e
+    next-asked : (m : ℕ) → k - j ≡ suc m → numbersQuestions (k - j) input at ≡ numberQuestions input at ++ numbersQuestions m input (numberAt input at .next)
+    unfolding numbersQuestions
+    next-asked m e = rw e
 
-  pub reading-more :
-      (v past : ℕ)
-      → j < k
-      → k ≤ length before
-      → meaning (Number v past) ≡ numberAt input at
-      → Reading input start k before (set values j v) at past (j + 1)
-  reading-more v past h g e =
-      let N = reads input at v past e in
-      let z : j + 1 - 1 ≡ j = omega arith in
-      let place : past ≡ placePast (suc j) input start = sym (N .next) ∙ ap (λ p. numberAt input p .next) (R .here) ∙ sym (place-more input j start) in
-      let value : v ≡ numberAt input (placePast j input start) .value = sym (N .value) ∙ ap (λ p. numberAt input p .value) (R .here) in
-      record {
-        within = omega arith;
-        same = length-set values j v ∙ R .same;
-        left =
-            R .left
-            ∙ ap firstNo (next-asked (k - (j + 1)) (omega arith))
-            ∙ asked-both (numberQuestions input at) (numbersQuestions (k - (j + 1)) input (numberAt input at .next)) (N .asked)
-            ∙ rw (N .next);
-        from = R .here ∙ rw z;
-        here = rw add-one place;
-        got =
-            rw add-one
-            (take-suc-set values j v (omega (arith, R .same))
-            ∙ rw (R .got) (ap (λ x. numbersAt j input start ++ (x ∷ [])) value)
-            ∙ sym (numbers-more input j start));
-      }
+    pub reading-more :
+        (v past : ℕ)
+        → j < k
+        → k ≤ length before
+        → meaning (Number v past) ≡ numberAt input at
+        → Reading input start k before (set values j v) at past (j + 1)
+    reading-more v past h g e =
+        let N = reads input at v past e in
+        let z : j + 1 - 1 ≡ j = omega arith in
+        let place : past ≡ placePast (suc j) input start = sym (N .next) ∙ ap (λ p. numberAt input p .next) (R .here) ∙ sym (place-more input j start) in
+        let value : v ≡ numberAt input (placePast j input start) .value = sym (N .value) ∙ ap (λ p. numberAt input p .value) (R .here) in
+        record {
+          within = omega arith;
+          same = length-set values j v ∙ R .same;
+          left =
+              R .left
+              ∙ ap firstNo (next-asked (k - (j + 1)) (omega arith))
+              ∙ asked-both (numberQuestions input at) (numbersQuestions (k - (j + 1)) input (numberAt input at .next)) (N .asked)
+              ∙ rw (N .next);
+          from = R .here ∙ rw z;
+          here = rw add-one place;
+          got =
+              rw add-one
+              (take-suc-set values j v (omega (arith, R .same))
+              ∙ rw (R .got) (ap (λ x. numbersAt j input start ++ (x ∷ [])) value)
+              ∙ sym (numbers-more input j start));
+        }
 
-  -- a number is refused
-  pub reading-stops :
-      (q p : ℕ) (r : ReadNumber)
-      → j < k
-      → r ≡ Refused q p
-      → meaning r ≡ numberAt input at
-      → Row (numbersQuestions k input start) (placePast (k - 1) input start) (placePast k input start) k (numbersAt k input start) values r
-  reading-stops q p r h t e =
-      let n : firstNo (numbersQuestions k input start) ≡ noAt q p =
-      R .left
-      ∙ ap firstNo (next-asked (k - (j + 1)) (omega arith))
-      ∙ asked-first (numberQuestions input at) (numbersQuestions (k - (j + 1)) input (numberAt input at .next)) (refused input at q p (rw t at e))
-      in
-      record { answer = rw (n, t); numbers = λ y. absurd (let w : noAt q p ≡ allYes = sym n ∙ y in let z : _≡_ {A = ℕ} 0 1 = cc in omega arith) }
+    -- a number is refused
+    pub reading-stops :
+        (q p : ℕ) (r : ReadNumber)
+        → j < k
+        → r ≡ Refused q p
+        → meaning r ≡ numberAt input at
+        → Row (numbersQuestions k input start) (placePast (k - 1) input start) (placePast k input start) k (numbersAt k input start) values r
+    reading-stops q p r h t e =
+        let n : firstNo (numbersQuestions k input start) ≡ noAt q p =
+        R .left
+        ∙ ap firstNo (next-asked (k - (j + 1)) (omega arith))
+        ∙ asked-first (numberQuestions input at) (numbersQuestions (k - (j + 1)) input (numberAt input at .next)) (refused input at q p (rw t at e))
+        in
+        record { answer = rw (n, t); numbers = λ y. absurd (let w : noAt q p ≡ allYes = sym n ∙ y in let z : _≡_ {A = ℕ} 0 1 = cc in omega arith) }
 
-  -- all are read
-  pub reading-ends :
-      k ≤ j
-      → Row (numbersQuestions k input start) (placePast (k - 1) input start) (placePast k input start) k (numbersAt k input start) values (Number last at)
-  unfolding numbersQuestions
-  reading-ends h =
-      let e : j ≡ k = omega (arith, R .within) in
-      let z : k - j ≡ 0 = omega arith in
-      let all : firstNo (numbersQuestions k input start) ≡ allYes = R .left ∙ rw z in
-      record { answer = rw (all, ← e, ← R .from, ← R .here); numbers = λ y. rw e at (R .got) }
+    -- all are read
+    pub reading-ends :
+        k ≤ j
+        → Row (numbersQuestions k input start) (placePast (k - 1) input start) (placePast k input start) k (numbersAt k input start) values (Number last at)
+    unfolding numbersQuestions
+    reading-ends h =
+        let e : j ≡ k = omega (arith, R .within) in
+        let z : k - j ≡ 0 = omega arith in
+        let all : firstNo (numbersQuestions k input start) ≡ allYes = R .left ∙ rw z in
+        record { answer = rw (all, ← e, ← R .from, ← R .here); numbers = λ y. rw e at (R .got) }
 
 -- a row that is written is read back
 pub record Back (input : List ℕ) (at : ℕ) (vs : List ℕ) (past : ℕ) : Type 0 where

@@ -58,37 +58,43 @@ pub record Taking (bits : List ℕ) (from v j : ℕ) : Type 0 where
   pub within : j ≤ length (take 14 (drop from bits))
   pub value : v ≡ bitsNumber (drop j (take 14 (drop from bits)))
 
-pub taking-starts : (bits : List ℕ) (from j : ℕ) → j ≡ length (take 14 (drop from bits)) → Taking bits from 0 j
+pub taking-starts : (bits : List ℕ) (from size : ℕ) → size ≡ length (take 14 (drop from bits)) → Taking bits from 0 (size - 0)
 unfolding bitsNumber
-taking-starts bits from j e = record { within = omega (arith, e); value = rw (e, drop-length) }
+taking-starts bits from size e =
+    let z : size - 0 ≡ length (take 14 (drop from bits)) = omega arith in
+    record { within = omega arith; value = rw (z, drop-length) }
 
 module _ (bits : List ℕ) (from : ℕ) (h : Bits bits) where
   pub taking-small : (v j : ℕ) → Taking bits from v j → v < 16384
   taking-small v j R =
       let part = take 14 (drop from bits) in
-      omega
-      (arith, R .value,
-      number-fits (drop j part) (bits-drop j part (bits-take 14 (drop from bits) (bits-drop from bits h)))
-      (omega (arith, length-drop j part, length-take 14 (drop from bits))))
+      omega (
+        arith,
+        R .value,
+        number-fits (drop j part) (bits-drop j part (bits-take 14 (drop from bits) (bits-drop from bits h)))
+            (omega (arith, length-drop j part, length-take 14 (drop from bits))),
+      )
 
   pub taking-more :
-      (v j x : ℕ)
-      → 0 < j
-      → x ≡ getD bits (from + (j - 1)) 0
-      → Taking bits from v j
-      → Taking bits from (v * 2 + x) (j - 1)
+      (size v j x : ℕ)
+      → j < size
+      → x ≡ getD bits (from + size - (j + 1)) 0
+      → Taking bits from v (size - j)
+      → Taking bits from (v * 2 + x) (size - (j + 1))
   unfolding bitsNumber
-  taking-more v j x l e R =
+  taking-more size v j x l e R =
       let part = take 14 (drop from bits) in
-      let there : x ≡ getD part (j - 1) 0 =
+      let m = size - (j + 1) in
+      let z : from + size - (j + 1) ≡ from + m = omega arith in
+      let there : x ≡ getD part m 0 =
       e
-      ∙ sym (getD-take 14 (drop from bits) (j - 1) 0 (omega (arith, R .within, length-take 14 (drop from bits))) ∙ getD-drop from bits (j - 1) 0)
+      ∙ rw z (sym (getD-take 14 (drop from bits) m 0 (omega (arith, R .within, length-take 14 (drop from bits))) ∙ getD-drop from bits m 0))
       in
-      let z : suc (j - 1) ≡ j = omega arith in
-      let c : drop (j - 1) part ≡ x ∷ drop j part =
-      drop-cons part (j - 1) 0 (omega (arith, R .within))
-      ∙ ap (λ (n : ℕ). getD part (j - 1) 0 ∷ drop n part) z
-      ∙ ap (λ (y : ℕ). y ∷ drop j part) (sym there)
+      let y : suc m ≡ size - j = omega arith in
+      let c : drop m part ≡ x ∷ drop (size - j) part =
+      drop-cons part m 0 (omega (arith, R .within))
+      ∙ ap (λ (n : ℕ). getD part m 0 ∷ drop n part) y
+      ∙ ap (λ (u : ℕ). u ∷ drop (size - j) part) (sym there)
       in
       record { within = omega (arith, R .within); value = rw c (omega (arith, R .value)) }
 

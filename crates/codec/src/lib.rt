@@ -3,7 +3,6 @@
 // `write_sheet` nothing depends on the bits before question 7 is decided.
 ghost use mathlib.Core.Path.{_≡_};
 ghost use Prim.Native.Nat.{_≤_, _<_, _+_, _-_, _*_, min};
-
 ghost use lib.ListN.{length, take, drop};
 ghost use Rattle.answers.specs.Questions.{firstNo};
 ghost use Rattle.answers.specs.Buffers.{overlay};
@@ -90,16 +89,17 @@ fn put_fourteens(bits: &[u8], k: usize, buf: &mut [u8], start: usize) -> usize
     at
 }
 
-// The number of the fourteen bits from a place on, or of those that are left; the highest goes in first.
+// The number of the fourteen bits from a place on, or of those that are left: the last, which is the highest, goes in first.
 fn fourteen(bits: &[u8], from: usize) -> usize
     requires { ⌜ (from ≤ length (now bits)) × Bits (now bits) ⌝ }
     ensures { λ r. ⌜ r ≡ bitsNumber (take 14 (drop from (now (bits .entry)))) ⌝ }
 {
+    let size = at_most_fourteen(bits.len() - from);
     let mut v = 0;
-    let mut j = at_most_fourteen(bits.len() - from);
-    while 0 < j {
-        j -= 1;
-        v = v * 2 + wide(bits[from + j]);
+    let mut j = 0;
+    while j < size {
+        j += 1;
+        v = v * 2 + wide(bits[from + size - j]);
     }
     v
 }
@@ -177,7 +177,7 @@ fn read_head(input: &[u8], room: usize) -> ReadNumber
 fn read_body(input: &[u8], w: usize, at: usize, values: &mut [usize]) -> ReadNumber
     requires { ⌜ (w ≤ 9217) × (659 ≤ length (now values)) ⌝ }
     ensures { λ r. ⌜ Row (bodyQuestions (now (input .entry)) w at) (numbersFor w) (placePast (numbersFor w) (now (input .entry)) at)
-      (numbersFor w) (numbersAt (numbersFor w) (now (input .entry)) at) (now (values .exit)) r ⌝ }
+        (numbersFor w) (numbersAt (numbersFor w) (now (input .entry)) at) (now (values .exit)) r ⌝ }
 {
     let k = (w + 13) / 14;
     let row = read_row(input, at, k, values);
@@ -197,7 +197,7 @@ fn read_body(input: &[u8], w: usize, at: usize, values: &mut [usize]) -> ReadNum
 fn read_row(input: &[u8], start: usize, k: usize, values: &mut [usize]) -> ReadNumber
     requires { ⌜ k ≤ length (now values) ⌝ }
     ensures { λ r. ⌜ Row (numbersQuestions k (now (input .entry)) start) (placePast (k - 1) (now (input .entry)) start)
-      (placePast k (now (input .entry)) start) k (numbersAt k (now (input .entry)) start) (now (values .exit)) r ⌝ }
+        (placePast k (now (input .entry)) start) k (numbersAt k (now (input .entry)) start) (now (values .exit)) r ⌝ }
 {
     let mut last = start;
     let mut at = start;

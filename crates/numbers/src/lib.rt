@@ -1,5 +1,6 @@
 // The number reader: a number in one or two bytes, at a place of an input.
 ghost use mathlib.Core.Path.{_≡_};
+ghost use lib.ListN.{length};
 ghost use Rattle.numbers.specs.Numbers.{numberAt};
 ghost use Rattle.numbers.specs.Reading.{meaning, answerOf};
 
@@ -14,7 +15,7 @@ pub fn read_number(input: &[u8], at: usize) -> ReadNumber
     ensures { λ r. ⌜ meaning r ≡ numberAt (now (input .entry)) at ⌝ }
 {
     if input.len() <= at {
-        return ReadNumber::Refused(8, input.len());
+        return no_byte(input);
     }
     let low = wide(input[at]);
     if low < 128 {
@@ -22,16 +23,30 @@ pub fn read_number(input: &[u8], at: usize) -> ReadNumber
     }
     let second = at + 1;
     if input.len() <= second {
-        return ReadNumber::Refused(8, input.len());
+        return no_byte(input);
     }
     let high = wide(input[second]);
     if high == 0 {
-        return ReadNumber::Refused(9, at);
+        return bad_form(at);
     }
     if 128 <= high {
-        return ReadNumber::Refused(9, at);
+        return bad_form(at);
     }
     ReadNumber::Number(low % 128 + high * 128, at + 2)
+}
+
+// Question 8 names the input's length.
+fn no_byte(input: &[u8]) -> ReadNumber
+    ensures { λ r. ⌜ r ≡ ReadNumber.Refused 8 (length (now (input .entry))) ⌝ }
+{
+    ReadNumber::Refused(8, input.len())
+}
+
+// Question 9 names the number's first byte.
+fn bad_form(at: usize) -> ReadNumber
+    ensures { λ r. ⌜ r ≡ ReadNumber.Refused 9 at ⌝ }
+{
+    ReadNumber::Refused(9, at)
 }
 
 // The answer of a reading, in 01's numbers.
