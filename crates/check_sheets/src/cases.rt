@@ -42,49 +42,70 @@ fn no_setting(
     tally::tallied(t1, plain::same(&out, &kept))
 }
 
-// 8, 9 and 10 at the form; 8, 9 and 1 at n; 4.
-fn heads(t: Tally) -> Tally {
+// 8, 9 and 10 at the form.
+fn form(t: Tally) -> Tally {
     let t1 = no_sheet(t, [0, 0, 0, 0, 0, 0], 0, 24, 8, 0);
     let t2 = no_sheet(t1, [0x81, 0, 0, 0, 0, 0], 1, 24, 8, 1);
     let t3 = no_sheet(t2, [0x81, 0, 0, 0, 0, 0], 2, 24, 9, 0);
     let t4 = no_sheet(t3, [0x81, 0x80, 1, 0, 0, 0], 3, 24, 9, 0);
-    let t5 = no_sheet(t4, [2, 0, 0, 0, 0, 0], 2, 24, 10, 0);
-    let t6 = no_sheet(t5, [1, 0, 0, 0, 0, 0], 1, 24, 8, 1);
-    let t7 = no_sheet(t6, [1, 0x83, 0, 0, 0, 0], 2, 24, 8, 2);
-    let t8 = no_sheet(t7, [1, 0x83, 0, 6, 0, 0], 4, 24, 9, 1);
-    let t9 = no_sheet(t8, [1, 0x83, 0x80, 1, 0, 0], 4, 24, 9, 1);
-    let t10 = no_sheet(t9, [1, 0x81, 8, 0, 0, 0], 3, 24, 1, 0);
-    let t11 = no_sheet(t10, [1, 3, 6, 0, 0, 0], 3, 2, 4, 0);
-    no_sheet(t11, [1, 9, 0x88, 0x2F, 0x1D, 0], 5, 20, 4, 0)
+    no_sheet(t4, [2, 0, 0, 0, 0, 0], 2, 24, 10, 0)
 }
 
-// 8 and 9 at the numbers, 11, 12. The first and the last but one are cases m and n.
-fn bodies(t: Tally) -> Tally {
+// 8, 9 and 1 at n.
+fn places(t: Tally) -> Tally {
+    let t1 = no_sheet(t, [1, 0, 0, 0, 0, 0], 1, 24, 8, 1);
+    let t2 = no_sheet(t1, [1, 0x83, 0, 0, 0, 0], 2, 24, 8, 2);
+    let t3 = no_sheet(t2, [1, 0x83, 0, 6, 0, 0], 4, 24, 9, 1);
+    let t4 = no_sheet(t3, [1, 0x83, 0x80, 1, 0, 0], 4, 24, 9, 1);
+    no_sheet(t4, [1, 0x81, 8, 0, 0, 0], 3, 24, 1, 0)
+}
+
+// 4: a byte too few for 3 places, and for 9.
+fn room(t: Tally) -> Tally {
+    let t1 = no_sheet(t, [1, 3, 6, 0, 0, 0], 3, 2, 4, 0);
+    no_sheet(t1, [1, 9, 0x88, 0x2F, 0x1D, 0], 5, 20, 4, 0)
+}
+
+// 8 at the numbers.
+fn cut(t: Tally) -> Tally {
+    let t1 = no_sheet(t, [1, 3, 0, 0, 0, 0], 2, 24, 8, 2);
+    let t2 = no_sheet(t1, [1, 3, 0x86, 0, 0, 0], 3, 24, 8, 3);
+    no_sheet(t2, [1, 9, 0x88, 0x2F, 0, 0], 4, 24, 8, 4)
+}
+
+// 9 at the numbers: the first is case m.
+fn long(t: Tally) -> Tally {
     let t1 = no_sheet(t, [1, 3, 0x86, 0, 0, 0], 4, 24, 9, 2);
     let t2 = no_sheet(t1, [1, 3, 0x86, 0x80, 0, 0], 5, 24, 9, 2);
-    let t3 = no_sheet(t2, [1, 3, 0, 0, 0, 0], 2, 24, 8, 2);
-    let t4 = no_sheet(t3, [1, 3, 0x86, 0, 0, 0], 3, 24, 8, 3);
-    let t5 = no_sheet(t4, [1, 9, 0x88, 0x2F, 0, 0], 4, 24, 8, 4);
-    let t6 = no_sheet(t5, [1, 9, 0x88, 0x2F, 0x9D, 0], 6, 24, 9, 4);
-    let t7 = no_sheet(t6, [1, 3, 0x0E, 0, 0, 0], 3, 24, 11, 2);
-    let t8 = no_sheet(t7, [1, 3, 0x0E, 0, 0, 0], 4, 24, 11, 2);
-    let t9 = no_sheet(t8, [1, 9, 0x88, 0x2F, 0x9D, 1], 6, 24, 11, 4);
-    let t10 = no_sheet(t9, [1, 0, 0, 0, 0, 0], 3, 24, 12, 2);
-    no_sheet(t10, [1, 3, 6, 0, 0, 0], 4, 24, 12, 3)
+    no_sheet(t2, [1, 9, 0x88, 0x2F, 0x9D, 0], 6, 24, 9, 4)
 }
 
-// 1, 4, 7, 13.
-fn settings(t: Tally) -> Tally {
+// 11, also where bytes are left over, and 12: the fourth is case n.
+fn ends(t: Tally) -> Tally {
+    let t1 = no_sheet(t, [1, 3, 0x0E, 0, 0, 0], 3, 24, 11, 2);
+    let t2 = no_sheet(t1, [1, 3, 0x0E, 0, 0, 0], 4, 24, 11, 2);
+    let t3 = no_sheet(t2, [1, 9, 0x88, 0x2F, 0x9D, 1], 6, 24, 11, 4);
+    let t4 = no_sheet(t3, [1, 0, 0, 0, 0, 0], 3, 24, 12, 2);
+    no_sheet(t4, [1, 3, 6, 0, 0, 0], 4, 24, 12, 3)
+}
+
+// Writing: 1 and 4.
+fn lengths(t: Tally) -> Tally {
     let t1 = no_setting(t, 1025, [0, 0, 0, 0], 0, 8, 1, 0);
     let t2 = no_setting(t1, 3, [0, 1, 1, 0], 2, 8, 4, 0);
-    let t3 = no_setting(t2, 3, [0, 1, 1, 0], 4, 8, 4, 0);
-    let t4 = no_setting(t3, 3, [0, 1, 2, 0], 3, 8, 7, 2);
-    let t5 = no_setting(t4, 3, [0, 255, 2, 0], 3, 8, 7, 1);
-    let t6 = no_setting(t5, 3, [0, 1, 1, 0], 3, 2, 13, 0);
-    let t7 = no_setting(t6, 0, [0, 0, 0, 0], 0, 0, 13, 0);
-    no_setting(t7, 2, [2, 0, 0, 0], 1, 0, 7, 0)
+    no_setting(t2, 3, [0, 1, 1, 0], 4, 8, 4, 0)
+}
+
+// Writing: 7 and 13.
+fn contents(t: Tally) -> Tally {
+    let t1 = no_setting(t, 3, [0, 1, 2, 0], 3, 8, 7, 2);
+    let t2 = no_setting(t1, 3, [0, 255, 2, 0], 3, 8, 7, 1);
+    let t3 = no_setting(t2, 2, [2, 0, 0, 0], 1, 0, 7, 0);
+    let t4 = no_setting(t3, 3, [0, 1, 1, 0], 3, 2, 13, 0);
+    no_setting(t4, 0, [0, 0, 0, 0], 0, 0, 13, 0)
 }
 
 pub fn run() -> Tally {
-    settings(bodies(heads(tally::none())))
+    let reading = ends(long(cut(room(places(form(tally::none()))))));
+    contents(lengths(reading))
 }
