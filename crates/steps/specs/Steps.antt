@@ -4,10 +4,10 @@ use mathlib.Core.Bool.{Bool, true, false, not, cond}
 use mathlib.Core.List.{List}
 use Prim.Native.Nat.{ℕ, zero, suc, _+_, _-_, _*_, _/_, _%_}
 use lib.Dec.{ltb, eqb}
-use lib.ListN.{getD, set}
+use lib.ListN.{getD}
 use Rattle.counts.specs.Counts.{up}
 use Rattle.network.specs.Wiring.{Side, Wiring}
-use Rattle.steps.specs.Sweeps.{look, seek, each, act, noneMarked, lowestUnmarked}
+use Rattle.steps.specs.Sweeps.{look, seek, store, each, act, noneMarked, lowestUnmarked}
 use Rattle.steps.specs.State.{State, Subnetwork, outputBit}
 
 -- the other place of a place's pair; of values, the associate
@@ -59,7 +59,7 @@ module _ (w : Wiring) (N : Subnetwork) where
   step3 x =
       let k = up (N .size) in
       let pair = w .dec k (x .s) .0 in
-      let marks = set (x .marks) pair 1 in
+      let marks = store (λ i. i) k pair 1 (x .marks) in
       let low = lowestUnmarked marks k in
       let f = other w k (x .s) in
       let again = cond (eqb f (x .c)) (ltb low k) false in
@@ -67,7 +67,7 @@ module _ (w : Wiring) (N : Subnetwork) where
         values = x .values;
         trails = x .trails;
         marks = marks;
-        bits = cond (ltb pair (k - 1)) (set (x .bits) (N .bit + pair) (digit (not (w .dec k (x .s) .1)))) (x .bits);
+        bits = store (λ i. N .bit + i) (k - 1) pair (digit (not (w .dec k (x .s) .1))) (x .bits);
         f = cond again (w .enc k (low, false)) f;
         c = cond again (w .enc k (low, false)) (x .c);
         g = x .g;

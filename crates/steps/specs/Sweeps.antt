@@ -18,6 +18,10 @@ unfoldable pub seek : (ℕ → ℕ) → ℕ → List ℕ → ℕ → ℕ
 seek place zero xs a = a
 seek place (suc i) xs a = cond (eqb (getD xs (place i) 0) a) i (seek place i xs a)
 
+-- a stored at place p of m places; nothing is stored at any other
+unfoldable pub store : (ℕ → ℕ) → ℕ → ℕ → ℕ → List ℕ → List ℕ
+store place m p a xs = cond (ltb p m) (set xs (place p) a) xs
+
 -- each of m places changed: place i by F i
 unfoldable pub each : (ℕ → ℕ) → ℕ → (ℕ → ℕ → ℕ) → List ℕ → List ℕ
 each place zero F xs = xs
