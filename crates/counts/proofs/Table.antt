@@ -14,7 +14,7 @@ use lib.Seq.{getD-drop}
 use borrow.Author.Tests.{lt-ltb, le-ltb}
 use Rattle.counts.specs.Counts.{up, byHalves}
 use Rattle.counts.specs.Table.{StandsAt}
-use Rattle.counts.proofs.Rule.{none, halved}
+use Rattle.counts.proofs.Rule.{up-parts, none, halved}
 
 abbrev pub both : Bool → Bool → Bool
 both true b = b
@@ -59,12 +59,11 @@ module _ (rule : ℕ → ℕ → ℕ → ℕ) (limit : ℕ) where
   from table (x ∷ rest) halves n beside t zero h =
       let first = both-left (right n (getD halves (n % 2) 0) (getD halves 0 0) x) (follows (suc n) rest (drop (n % 2) halves)) t in
       let counts = eqb x (counted rule n (getD halves (n % 2) 0) (getD halves 0 0)) in
-      let top : n / 2 + n % 2 ≡ up n = omega arith in
       let bottom : n / 2 + 0 ≡ n - up n = omega arith in
       rw (add-zero n) (record {
         count =
             eqb→eq x (counted rule n (getD halves (n % 2) 0) (getD halves 0 0)) (both-left counts (leb x limit) first)
-            ∙ rw (beside (n % 2), beside 0, top, bottom);
+            ∙ rw (beside (n % 2), beside 0, up-parts n, bottom);
         small = leb→le x limit (both-right counts (leb x limit) first);
       })
   from table (x ∷ rest) halves n beside t (suc k) h =

@@ -2,7 +2,7 @@
 // by its closed formula. Each answer is equated with the recursive rule.
 ghost use mathlib.Core.Path.{_≡_};
 ghost use Prim.Native.Nat.{_≤_, _<_};
-ghost use Rattle.counts.specs.Counts.{W, E};
+ghost use Rattle.counts.specs.Counts.{W, E, L};
 ghost use Rattle.counts.specs.Table.{StandsAt};
 
 mod entry_table;
@@ -38,4 +38,53 @@ pub fn entries(n: usize) -> usize
     ensures { λ r. ⌜ (r ≡ E n) × (r ≤ 16381) ⌝ }
 {
     entry(&entry_table::ENTRIES, n)
+}
+
+// W by its rule: the top and the bottom network, and one switch less than places.
+pub fn switches_by_halves(n: u32) -> u64
+    ensures { λ r. ⌜ r ≡ W n ⌝ }
+{
+    if n < 2 {
+        return 0;
+    }
+    let k = n / 2 + n % 2;
+    let top = switches_by_halves(k);
+    let bottom = switches_by_halves(n - k);
+    (n - 1) as u64 + top + bottom
+}
+
+// E by its rule: the top and the bottom network, and three steps for each pair and three more.
+pub fn entries_by_halves(n: u32) -> u64
+    ensures { λ r. ⌜ r ≡ E n ⌝ }
+{
+    if n < 2 {
+        return 0;
+    }
+    if n == 2 {
+        return 2;
+    }
+    let k = n / 2 + n % 2;
+    let top = entries_by_halves(k);
+    let bottom = entries_by_halves(n - k);
+    3 * (k as u64) + 3 + top + bottom
+}
+
+// W by its closed formula n × L − 2^L + 1, with L the count of binary digits of n − 1. The 1 is added before 2^L is
+// taken away: the other way round the difference would fall below 0 at n = 1.
+pub fn switches_by_formula(n: u32) -> u64
+    ensures { λ r. ⌜ r ≡ W n ⌝ }
+{
+    if n == 0 {
+        return 0;
+    }
+    let l = digits(n - 1);
+    (n as u64) * l + 1 - (1u64 << l)
+}
+
+// L, the count of binary digits of x.
+fn digits(x: u32) -> u64
+    ensures { λ r. ⌜ r ≡ L x ⌝ }
+{
+    let zeros = u32::leading_zeros(x);
+    32 - zeros as u64
 }
