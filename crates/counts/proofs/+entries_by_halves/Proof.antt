@@ -49,11 +49,11 @@ entries-by-halves-returns-2 : (t : ℕ) → entries-by-halves-lts.Need-returns-2
 ) (entries-by-halves-at t) entries-by-halves.Post
 entries-by-halves-returns-2 t c = rw (c .if2 .taken) (sym E-two)
 
-entries-by-halves-add-k : (t : ℕ) → entries-by-halves-lts.Need-add-k (
+entries-by-halves-add-pairs : (t : ℕ) → entries-by-halves-lts.Need-add-pairs (
   entries-by-halves-below t,
   entries-by-halves.Post,
 ) (entries-by-halves-at t) entries-by-halves.Post
-entries-by-halves-add-k t c = omega arith
+entries-by-halves-add-pairs t c = omega arith
 
 entries-by-halves-entries-by-halves-requires :
     (t : ℕ) → entries-by-halves-lts.Need-entries-by-halves-requires (
@@ -127,7 +127,7 @@ pub +entries-by-halves-spec : {M : Type 1} → statement M
     entries-by-halves.Post
     (entries-by-halves-returns t)
     (entries-by-halves-returns-2 t)
-    (entries-by-halves-add-k t)
+    (entries-by-halves-add-pairs t)
     (entries-by-halves-entries-by-halves-requires t)
     (entries-by-halves-sub-entries-by-halves t)
     (entries-by-halves-entries-by-halves-requires-2 t)

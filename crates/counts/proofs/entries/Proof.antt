@@ -6,12 +6,12 @@ use Rattle.counts.proofs.Table.{holds}
 use Rattle.counts.proofs.entries.Statement.{statement}
 use Rattle.counts.proofs.entries.Tie as tie
 
-entry-requires : tie.Need-entry-requires
-entry-requires c κs = search needs
+read-table-requires : tie.Need-read-table-requires
+read-table-requires c κs = search needs
 
 returns : tie.Need-returns
 unfolding E
-returns c = holds entryRule 16381 (c .entry .ensures) tt (search needs)
+returns c = holds entryRule 16381 (c .read-table .ensures) tt (search needs)
 
 pub entries-spec : {M : Type 1} → statement M
-entries-spec = tie.close (tie.spec entry-requires returns)
+entries-spec = tie.close (tie.spec read-table-requires returns)
