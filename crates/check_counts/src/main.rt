@@ -1,7 +1,6 @@
 // Compares the counts of 0 to 1,024 places: the table, the recursion on halves and, for the switch count, the closed
 // formula. It counts those that are equal, so one difference changes what is printed.
 ghost use Prim.Native.Nat.{_≤_};
-ghost use mathlib.Core.Path.{_≡_};
 use libc::STDOUT_FILENO;
 
 // 1 where the three ways give one switch count, else 0.

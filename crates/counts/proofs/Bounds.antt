@@ -9,7 +9,7 @@ use lib.Pow.{pow-pos, shl-exact}
 use Rattle.counts.specs.Counts.{W, E, L, up}
 use Rattle.counts.proofs.Rule.{W-none, W-more, E-none, E-two, E-more}
 use Rattle.counts.proofs.DigitCount.{L-leading}
-use Rattle.counts.proofs.Formula.{W-formula}
+use Rattle.counts.proofs.Formula.{W-sum}
 
 -- a number below 2 ^ k has at most k digits
 pub L-le : (k x : ℕ) → x < 2 ^ k → L x ≤ k
@@ -27,7 +27,7 @@ W-in-64 n l e g h =
     let digits : l ≤ 32 = rw e (L-le 32 (n - 1) (omega arith)) in
     let below : n ≤ 2 ^ 32 = omega arith in
     let product : n * l ≤ 2 ^ 32 * 32 = mul-le-mul {n₁ = n} {m₁ = l} {n₂ = 2 ^ 32} {m₂ = 32} below digits in
-    let formula : W n + 2 ^ l ≡ n * l + 1 = rw e (W-formula n g) in
+    let formula : W n + 2 ^ l ≡ n * l + 1 = rw e (W-sum n g) in
     let power : (1 * 2 ^ l) % 2 ^ 64 ≡ 1 * 2 ^ l = shl-exact 1 l 64 (omega arith) (omega arith) in
     record {
       digits = digits;
@@ -42,7 +42,7 @@ W-small n h = go (decLt n 1)
   where
     go : Dec (n < 1) → W n ≤ 2 ^ 37
     go (yes l) = omega (arith, W-none n (omega arith))
-    go (no l) = omega (arith, W-formula n (omega arith), pow-pos (L (n - 1)), W-in-64 n (L (n - 1)) refl (omega arith) h)
+    go (no l) = omega (arith, W-sum n (omega arith), pow-pos (L (n - 1)), W-in-64 n (L (n - 1)) refl (omega arith) h)
 
 -- a network has at most five entries for each switch
 E-below : (d n : ℕ) → n < d → E n ≤ 5 * W n

@@ -1,4 +1,4 @@
--- The count L of binary digits: it and the leading zeros make a number's width, and 2 ^ L is the next power of two.
+-- The count L of binary digits: it and the leading zeros make a number's width, and 2 ^ L is the next power of two above it.
 -- Assumes nothing.
 use mathlib.Core.Path.{_≡_, _∙_}
 use Prim.Native.Nat.{ℕ, zero, suc, _+_, _*_, _/_, _^_, _≤_, _<_}
@@ -26,7 +26,7 @@ below-pow : (x : ℕ) → x < 2 ^ x
 below-pow zero = pow-pos 0
 below-pow (suc x) = omega (arith, below-pow x, pow-suc 2 x)
 
--- 2 ^ L x lies above x, and not twice as high
+-- 2 ^ L x lies above x, and is at most 2 x + 1
 pub record Length (x l : ℕ) : Type 0 where
   pub above : x < 2 ^ l
   pub near : 2 ^ l ≤ 2 * x + 1

@@ -1,7 +1,7 @@
 -- The closed formula of W, for every number of places.
 -- Assumes nothing.
-use mathlib.Core.Path.{_≡_, refl, sym, ap, _∙_}
-use Prim.Native.Nat.{ℕ, zero, suc, _+_, _-_, _*_, _/_, _^_, _≤_, _<_}
+use mathlib.Core.Path.{_≡_, ap, _∙_}
+use Prim.Native.Nat.{ℕ, zero, suc, _+_, _-_, _*_, _^_, _≤_, _<_}
 use native.Mathlib.Nat.{add-mul, mul-suc, pow-suc}
 use native.Mathlib.Omega.{arith}
 use native.Mathlib.Decide.{decLt}
@@ -31,11 +31,12 @@ W-between (suc (suc i)) n h g =
     ap (λ (m : ℕ). m * j) (omega arith) ∙ add-mul (up n) (n - up n) j in
     omega (arith, W-more n (omega arith), mul-suc n j)
 
--- the formula as the paper has it, but for the order of the terms: L is the count of binary digits of n - 1
-pub W-formula : (n : ℕ) → 1 ≤ n → W n + 2 ^ L (n - 1) ≡ n * L (n - 1) + 1
-W-formula n h =
+-- L is the count of binary digits of n - 1
+pub W-sum : (n : ℕ) → 1 ≤ n → W n + 2 ^ L (n - 1) ≡ n * L (n - 1) + 1
+W-sum n h =
     let about = L-length (n - 1) in
     W-between (L (n - 1)) n (omega arith) (omega arith)
 
-pub W-formula-less : (n : ℕ) → 1 ≤ n → W n ≡ n * L (n - 1) + 1 - 2 ^ L (n - 1)
-W-formula-less n h = omega (arith, W-formula n h)
+-- The paper's formula. The 1 is added first: 2 ^ L exceeds n L at n = 1, and these numbers have nothing below 0.
+pub W-formula : (n : ℕ) → 1 ≤ n → W n ≡ n * L (n - 1) + 1 - 2 ^ L (n - 1)
+W-formula n h = omega (arith, W-sum n h)

@@ -1,7 +1,6 @@
 -- The values that the paper names.
 -- Assumes nothing.
 use mathlib.Core.Path.{_≡_, refl}
-use Prim.Native.Nat.{ℕ}
 use Rattle.counts.specs.Counts.{W, E, byHalves}
 
 pub record Named : Type 0 where

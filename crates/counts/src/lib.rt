@@ -1,7 +1,7 @@
 // The switch count W and the setter's entry count E of a network of n places: from a table, by recursion on halves, and W
 // by its closed formula. Each answer is equated with the recursive rule.
 ghost use mathlib.Core.Path.{_≡_};
-ghost use Prim.Native.Nat.{_≤_, _<_};
+ghost use Prim.Native.Nat.{_≤_};
 ghost use Rattle.counts.specs.Counts.{W, E, L};
 ghost use Rattle.counts.specs.Table.{StandsAt};
 

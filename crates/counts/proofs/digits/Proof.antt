@@ -8,8 +8,6 @@ use Rattle.counts.specs.Counts.{L}
 use Rattle.counts.proofs.DigitCount.{L-leading}
 use Rattle.counts.proofs.digits.Statement.{statement}
 use Rattle.counts.proofs.digits.Tie as tie
-use Rattle.counts.proofs.digits.Reads as reads
-use Rattle.counts.proofs.digits.Lts as lts
 
 leading : (c : tie.Start) → leadingZeros 32 (c .args .x) + L (c .args .x) ≡ 32
 leading c = L-leading 32 (c .args .x) (omega arith)

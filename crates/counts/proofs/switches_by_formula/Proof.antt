@@ -1,6 +1,6 @@
 -- `counts::switches_by_formula` meets its contract: the formula holds for every n, and no step leaves 64 bits.
 -- Assumes nothing.
-use mathlib.Core.Path.{_≡_, sym}
+use mathlib.Core.Path.{sym}
 use native.Mathlib.Omega.{arith}
 use Rattle.counts.proofs.Rule.{W-none}
 use Rattle.counts.proofs.Bounds.{In64, W-in-64}
