@@ -48,6 +48,22 @@ bottomBits m top bits = drop (switchCount top) (topBits m bits)
 abbrev pub outputBits : ℕ → Network → Network → List ℕ → List ℕ
 outputBits m top bottom bits = drop (switchCount bottom) (bottomBits m top bits)
 
+-- the two layers of a network, the switches of each and their bits
+pub data Layer : Type 0 where
+  input output : Layer
+
+abbrev pub size : Layer → ℕ → ℕ
+size input m = up m - 1
+size output m = down m
+
+abbrev pub bitsOf : Layer → ℕ → Network → Network → List ℕ → List ℕ
+bitsOf input m top bottom bits = bits
+bitsOf output m top bottom bits = outputBits m top bottom bits
+
+pub size-fits : (a : Layer) (m : ℕ) → size a m ≤ down m
+size-fits input m = omega arith
+size-fits output m = omega arith
+
 -- the same side of another pair: what the half that owns the side does
 abbrev pub inHalves : (ℕ → ℕ) → (ℕ → ℕ) → Side → Side
 inHalves top bottom p = (cond (p .1) (bottom (p .0)) (top (p .0)), p .1)
@@ -57,27 +73,24 @@ module _ (w : Wiring) where
   abbrev pub through : ℕ → (ℕ → Bool) → (Side → Side) → (ℕ → Bool) → ℕ → ℕ
   through k a half b q = w .enc k (turned b (half (turned a (w .dec k q))))
 
-  -- the place from which the item comes that forward leaves at q
-  unfoldable pub cameFrom : Network → List ℕ → ℕ → ℕ
-  cameFrom wires bits q = q
-  cameFrom (split m top bottom) bits q =
+  -- through a network, entering it by one layer of it and leaving it by another
+  unfoldable pub across : Layer → Layer → Network → List ℕ → ℕ → ℕ
+  across a b wires bits q = q
+  across a b (split m top bottom) bits q =
       through
       (up m)
-      (crosses (down m) (outputBits m top bottom bits))
-      (inHalves (cameFrom top (topBits m bits)) (cameFrom bottom (bottomBits m top bits)))
-      (crosses (up m - 1) bits)
+      (crosses (size a m) (bitsOf a m top bottom bits))
+      (inHalves (across a b top (topBits m bits)) (across a b bottom (bottomBits m top bits)))
+      (crosses (size b m) (bitsOf b m top bottom bits))
       q
 
+  -- the place from which the item comes that forward leaves at q
+  abbrev pub cameFrom : Network → List ℕ → ℕ → ℕ
+  cameFrom = across output input
+
   -- the place to which forward takes the item at q
-  unfoldable pub goesTo : Network → List ℕ → ℕ → ℕ
-  goesTo wires bits q = q
-  goesTo (split m top bottom) bits q =
-      through
-      (up m)
-      (crosses (up m - 1) bits)
-      (inHalves (goesTo top (topBits m bits)) (goesTo bottom (bottomBits m top bits)))
-      (crosses (down m) (outputBits m top bottom bits))
-      q
+  abbrev pub goesTo : Network → List ℕ → ℕ → ℕ
+  goesTo = across input output
 
 -- functions of the halves that keep to their half
 pub record Keeps (m : ℕ) (top bottom : ℕ → ℕ) : Type 0 where
@@ -132,57 +145,33 @@ module _ {w : Wiring} (L : Lawful w) where
         ∙ ap (w .enc k) (turned-twice a s)
         ∙ L .enc-dec k q (omega arith)
 
-  pub cameFrom-below : {m : ℕ} {net : Network} → Sized m net → (bits : List ℕ) (q : ℕ) → q < m → cameFrom w net bits q < m
-  unfolding cameFrom
-  cameFrom-below (none z) bits q h = h
-  cameFrom-below {m} (some {top = top} {bottom = bottom} two t u) bits q h =
-      through-below m (down m) (up m - 1) (outputBits m top bottom bits) bits (omega arith) (omega arith)
-      (cameFrom w top (topBits m bits))
-      (cameFrom w bottom (bottomBits m top bits))
-      (record { onTop = cameFrom-below t (topBits m bits); onBottom = cameFrom-below u (bottomBits m top bits) })
+  pub across-below :
+      (a b : Layer) {m : ℕ} {net : Network} → Sized m net → (bits : List ℕ) (q : ℕ) → q < m → across w a b net bits q < m
+  unfolding across
+  across-below a b (none z) bits q h = h
+  across-below a b {m} (some {top = top} {bottom = bottom} two t u) bits q h =
+      through-below m (size a m) (size b m) (bitsOf a m top bottom bits) (bitsOf b m top bottom bits) (size-fits a m) (size-fits b m)
+      (across w a b top (topBits m bits))
+      (across w a b bottom (bottomBits m top bits))
+      (record { onTop = across-below a b t (topBits m bits); onBottom = across-below a b u (bottomBits m top bits) })
       q
       h
 
-  pub goesTo-below : {m : ℕ} {net : Network} → Sized m net → (bits : List ℕ) (q : ℕ) → q < m → goesTo w net bits q < m
-  unfolding goesTo
-  goesTo-below (none z) bits q h = h
-  goesTo-below {m} (some {top = top} {bottom = bottom} two t u) bits q h =
-      through-below m (up m - 1) (down m) bits (outputBits m top bottom bits) (omega arith) (omega arith)
-      (goesTo w top (topBits m bits))
-      (goesTo w bottom (bottomBits m top bits))
-      (record { onTop = goesTo-below t (topBits m bits); onBottom = goesTo-below u (bottomBits m top bits) })
-      q
-      h
-
-  pub cameFrom-goesTo :
-      {m : ℕ} {net : Network} → Sized m net → (bits : List ℕ) (q : ℕ) → q < m → cameFrom w net bits (goesTo w net bits q) ≡ q
-  unfolding cameFrom goesTo
-  cameFrom-goesTo (none z) bits q h = refl
-  cameFrom-goesTo {m} (some {top = top} {bottom = bottom} two t u) bits q h =
-      through-back m (up m - 1) (down m) bits (outputBits m top bottom bits) (omega arith) (omega arith)
-      (goesTo w top (topBits m bits))
-      (goesTo w bottom (bottomBits m top bits))
-      (record { onTop = goesTo-below t (topBits m bits); onBottom = goesTo-below u (bottomBits m top bits) })
-      (cameFrom w top (topBits m bits))
-      (cameFrom w bottom (bottomBits m top bits))
-      (cameFrom-goesTo t (topBits m bits))
-      (cameFrom-goesTo u (bottomBits m top bits))
-      q
-      h
-
-  pub goesTo-cameFrom :
-      {m : ℕ} {net : Network} → Sized m net → (bits : List ℕ) (q : ℕ) → q < m → goesTo w net bits (cameFrom w net bits q) ≡ q
-  unfolding cameFrom goesTo
-  goesTo-cameFrom (none z) bits q h = refl
-  goesTo-cameFrom {m} (some {top = top} {bottom = bottom} two t u) bits q h =
-      through-back m (down m) (up m - 1) (outputBits m top bottom bits) bits (omega arith) (omega arith)
-      (cameFrom w top (topBits m bits))
-      (cameFrom w bottom (bottomBits m top bits))
-      (record { onTop = cameFrom-below t (topBits m bits); onBottom = cameFrom-below u (bottomBits m top bits) })
-      (goesTo w top (topBits m bits))
-      (goesTo w bottom (bottomBits m top bits))
-      (goesTo-cameFrom t (topBits m bits))
-      (goesTo-cameFrom u (bottomBits m top bits))
+  -- back through the same network
+  pub across-back :
+      (a b : Layer) {m : ℕ} {net : Network} → Sized m net → (bits : List ℕ) (q : ℕ) → q < m
+      → across w b a net bits (across w a b net bits q) ≡ q
+  unfolding across
+  across-back a b (none z) bits q h = refl
+  across-back a b {m} (some {top = top} {bottom = bottom} two t u) bits q h =
+      through-back m (size a m) (size b m) (bitsOf a m top bottom bits) (bitsOf b m top bottom bits) (size-fits a m) (size-fits b m)
+      (across w a b top (topBits m bits))
+      (across w a b bottom (bottomBits m top bits))
+      (record { onTop = across-below a b t (topBits m bits); onBottom = across-below a b u (bottomBits m top bits) })
+      (across w b a top (topBits m bits))
+      (across w b a bottom (bottomBits m top bits))
+      (across-back a b t (topBits m bits))
+      (across-back a b u (bottomBits m top bits))
       q
       h
 
@@ -229,7 +218,7 @@ module _ {w : Wiring} (L : Lawful w) where
     pub forward-at-of :
         {m : ℕ} {net : Network} → Sized m net → (bits : List ℕ) (xs : List A) → length xs ≡ m
         → (q : ℕ) → q < m → getD (forward d w net bits xs) q d ≡ getD xs (cameFrom w net bits q) d
-    unfolding forward cameFrom
+    unfolding forward across
     forward-at-of (none z) bits xs e q h = refl
     forward-at-of {m} (some {top = top} {bottom = bottom} two t u) bits xs e q h =
         let k = up m in
@@ -242,7 +231,7 @@ module _ {w : Wiring} (L : Lawful w) where
         (layer d w k (down m) (outputBits m top bottom bits) (joined d w k m top′ bottom′))
         (cameFrom w top (topBits m bits))
         (cameFrom w bottom (bottomBits m top bits))
-        (record { onTop = cameFrom-below t (topBits m bits); onBottom = cameFrom-below u (bottomBits m top bits) })
+        (record { onTop = across-below output input t (topBits m bits); onBottom = across-below output input u (bottomBits m top bits) })
         (omega arith)
         (layer-at d w k m (down m) (outputBits m top bottom bits) (joined d w k m top′ bottom′) (rw length-joined (laid L m)) (omega arith))
         (forward-at-of t (topBits m bits) tops (length-part d w k false k entered))
@@ -254,7 +243,7 @@ module _ {w : Wiring} (L : Lawful w) where
     pub backward-at-of :
         {m : ℕ} {net : Network} → Sized m net → (bits : List ℕ) (xs : List A) → length xs ≡ m
         → (q : ℕ) → q < m → getD (backward d w net bits xs) q d ≡ getD xs (goesTo w net bits q) d
-    unfolding backward goesTo
+    unfolding backward across
     backward-at-of (none z) bits xs e q h = refl
     backward-at-of {m} (some {top = top} {bottom = bottom} two t u) bits xs e q h =
         let k = up m in
@@ -267,7 +256,7 @@ module _ {w : Wiring} (L : Lawful w) where
         (layerBack d w k (k - 1) bits (joined d w k m top′ bottom′))
         (goesTo w top (topBits m bits))
         (goesTo w bottom (bottomBits m top bits))
-        (record { onTop = goesTo-below t (topBits m bits); onBottom = goesTo-below u (bottomBits m top bits) })
+        (record { onTop = across-below input output t (topBits m bits); onBottom = across-below input output u (bottomBits m top bits) })
         (omega arith)
         (layerBack-at d w k m (k - 1) bits (joined d w k m top′ bottom′) (rw length-joined (laid L m)) (omega arith))
         (backward-at-of t (topBits m bits) tops (length-part d w k false k entered))
