@@ -5,3 +5,5 @@ pub mod Blocks
 pub mod Places
 pub mod Layer
 pub mod Where
+pub mod Undo
+pub mod Order
