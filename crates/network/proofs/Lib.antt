@@ -7,3 +7,4 @@ pub mod Layer
 pub mod Where
 pub mod Undo
 pub mod Order
+pub mod Moved
