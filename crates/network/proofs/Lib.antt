@@ -8,3 +8,4 @@ pub mod Where
 pub mod Undo
 pub mod Order
 pub mod Moved
+pub mod Run

@@ -97,7 +97,7 @@ pub record Keeps (m : ℕ) (top bottom : ℕ → ℕ) : Type 0 where
   pub onTop : (j : ℕ) → j < up m → top j < up m
   pub onBottom : (j : ℕ) → j < down m → bottom j < down m
 
-lies-halves : {m : ℕ} {top bottom : ℕ → ℕ} → Keeps m top bottom → (p : Side) → Lies m p → Lies m (inHalves top bottom p)
+pub lies-halves : {m : ℕ} {top bottom : ℕ → ℕ} → Keeps m top bottom → (p : Side) → Lies m p → Lies m (inHalves top bottom p)
 lies-halves {m} {top} {bottom} keeps p l = go (p .0) (p .1) l
   where
     go : (j : ℕ) (t : Bool) → Lies m (j, t) → Lies m (inHalves top bottom (j, t))
