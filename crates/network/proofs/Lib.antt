@@ -9,3 +9,4 @@ pub mod Undo
 pub mod Order
 pub mod Moved
 pub mod Run
+pub mod RunBack
