@@ -1,6 +1,6 @@
 -- Running the log of mixing moves the items forward, as the network's own rule does.
 -- Assumes nothing.
-use mathlib.Core.Bool.{Bool, true, false, cond, true≢false, false≢true}
+use mathlib.Core.Bool.{Bool, true, false, false≢true}
 use mathlib.Core.Path.{_≡_, refl, sym, ap, _∙_}
 use mathlib.Core.Logic.{_≢_}
 use mathlib.Core.List.{List, [], _∷_, _++_}
@@ -11,35 +11,13 @@ use lib.ListN.{length, getD, drop}
 use lib.Seq.{ext-getD, getD-drop}
 use Rattle.counts.specs.Counts.{up}
 use Rattle.network.specs.Wiring.{Wiring, Lawful, Side}
-use Rattle.network.specs.Network.{Network, wires, split, network, switchCount, down}
-use Rattle.network.specs.Move.{switch, layer, forward}
+use Rattle.network.specs.Network.{Network, split, network, switchCount, down}
+use Rattle.network.specs.Move.{layer, forward}
 use Rattle.network.specs.Log.{Entry, layerEntries, switches, applyEntries, runEntry, runFrom, runApply}
-use Rattle.network.proofs.Shape.{
-  Sized,
-  none,
-  some,
-  sized,
-  length-layer,
-  length-layerEntries,
-  length-switches,
-  length-forward,
-}
+use Rattle.network.proofs.Shape.{Sized, none, some, sized, length-layer, length-layerEntries, length-switches, length-forward}
 use Rattle.network.proofs.Places.{Lies, Laid, lies-top, lies-both, lies-turned, lies-below, below-lies, laid, turned, crosses}
 use Rattle.network.proofs.Layer.{layer-at, layer-other}
-use Rattle.network.proofs.Where.{
-  topBits,
-  bottomBits,
-  outputBits,
-  inHalves,
-  through,
-  Keeps,
-  lies-halves,
-  cameFrom,
-  across,
-  input,
-  output,
-  across-below,
-}
+use Rattle.network.proofs.Where.{topBits, bottomBits, outputBits, inHalves, through, Keeps, lies-halves, cameFrom, across, input, output, across-below}
 use Rattle.network.proofs.Undo.{forward-at}
 
 module _ {A : Type 0} (d : A) where

@@ -14,19 +14,9 @@ use lib.ListN.{length, getD, drop, set, length-reverse}
 use lib.Seq.{ext-getD, getD-drop, set-getD}
 use Rattle.counts.specs.Counts.{up, W}
 use Rattle.network.specs.Wiring.{Wiring, Lawful, Side}
-use Rattle.network.specs.Network.{Network, wires, split, network, down}
-use Rattle.network.specs.Move.{switch, forward, backward}
-use Rattle.network.specs.Log.{
-  Entry,
-  layerEntries,
-  switches,
-  applyEntries,
-  inverseEntries,
-  runEntry,
-  runFrom,
-  runApply,
-  runInverse,
-}
+use Rattle.network.specs.Network.{Network, network, down}
+use Rattle.network.specs.Move.{switch, backward}
+use Rattle.network.specs.Log.{Entry, layerEntries, switches, applyEntries, inverseEntries, runEntry, runFrom, runApply, runInverse}
 use Rattle.network.proofs.Shape.{Sized, none, some, sized, length-switch, length-applyEntries, length-backward}
 use Rattle.network.proofs.Places.{lies-top, lies-both, lies-below, switch-first, switch-second, switch-other}
 use Rattle.network.proofs.Undo.{forward-backward}

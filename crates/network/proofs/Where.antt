@@ -3,39 +3,16 @@
 -- Assumes nothing.
 use mathlib.Core.Bool.{Bool, true, false, cond}
 use mathlib.Core.Path.{_≡_, refl, sym, ap, _∙_}
-use mathlib.Core.List.{List, [], _∷_, _++_}
-use Prim.Native.Nat.{ℕ, zero, suc, _+_, _-_, _≤_, _<_}
+use mathlib.Core.List.{List}
+use Prim.Native.Nat.{ℕ, _-_, _≤_, _<_}
 use native.Mathlib.Omega.{arith}
 use lib.ListN.{length, getD, drop}
 use Rattle.counts.specs.Counts.{up}
 use Rattle.network.specs.Wiring.{Wiring, Lawful, Side}
 use Rattle.network.specs.Network.{Network, wires, split, switchCount, down}
 use Rattle.network.specs.Move.{layer, layerBack, part, joined, forward, backward}
-use Rattle.network.proofs.Shape.{
-  Sized,
-  none,
-  some,
-  length-layer,
-  length-layerBack,
-  length-part,
-  length-joined,
-  length-forward-of,
-  length-backward-of,
-}
-use Rattle.network.proofs.Places.{
-  Lies,
-  Laid,
-  laid,
-  lies-top,
-  lies-both,
-  lies-turned,
-  lies-below,
-  below-lies,
-  flipped,
-  turned,
-  turned-twice,
-  crosses,
-}
+use Rattle.network.proofs.Shape.{Sized, none, some, length-part, length-joined}
+use Rattle.network.proofs.Places.{Lies, laid, lies-top, lies-both, lies-turned, lies-below, below-lies, turned, turned-twice, crosses}
 use Rattle.network.proofs.Layer.{layer-at, layerBack-at, part-at, joined-at}
 
 -- the bits of the parts of a network
