@@ -20,6 +20,10 @@ use Rattle.network.proofs.Layer.{layer-at, layer-other}
 use Rattle.network.proofs.Where.{topBits, bottomBits, outputBits, inHalves, through, Keeps, lies-halves, cameFrom, across, input, output, across-below}
 use Rattle.network.proofs.Undo.{forward-at}
 
+-- a wiring whose sides lie at given places, which is all that a layer asks of one
+abbrev placed : (Side → ℕ) → Wiring
+placed at = record { enc = λ k p. at p; dec = λ k q. (q, false) }
+
 module _ {A : Type 0} (d : A) where
   -- only the bits of the entries count
   runFrom-same :
@@ -55,10 +59,6 @@ module _ {A : Type 0} (d : A) where
       (λ z.
       ap (λ (j : ℕ). getD bits j 0) (omega arith) ∙ sym (getD-drop c bits z 0)
       ∙ ap (λ (j : ℕ). getD (drop c bits) j 0) (sym (zero-add z)))
-
-  -- the wiring whose sides lie at given places
-  abbrev pub placed : (Side → ℕ) → Wiring
-  placed at = record { enc = λ k p. at p; dec = λ k q. (q, false) }
 
   run-layer :
       (w : Wiring) (at : Side → ℕ) (k c : ℕ) (bits : List ℕ) (xs : List A)
@@ -118,7 +118,7 @@ module _ {A : Type 0} (d : A) {w : Wiring} (L : Lawful w) where
       halves-apart j r h g e =
           false≢true (ap (λ (s : Side). s .1) (laid-at .apart (j, false) (r, true) (lies-top m j h) (lies-both m (r, true) g) e))
 
-      -- four lists: behind the input layer, the top, the bottom
+      -- both halves together: `entered` before them, `middle` behind the top, `left` behind the bottom
       halves-carried :
           (entered middle left : List A) (f g : ℕ → ℕ) → Keeps m f g
           → Carried d (up m) (λ j. at (j, false)) f entered middle
@@ -152,7 +152,7 @@ module _ {A : Type 0} (d : A) {w : Wiring} (L : Lawful w) where
     outputs = layerEntries w side (down m)
 
     abbrev entered : List A
-    entered = layer d (placed d side) (up m) (up m - 1) bits xs
+    entered = layer d (placed side) (up m) (up m - 1) bits xs
 
     abbrev middle : List A
     middle = runApply d (topBits m bits) tops entered
@@ -161,7 +161,7 @@ module _ {A : Type 0} (d : A) {w : Wiring} (L : Lawful w) where
     left = runApply d (bottomBits m top bits) bottoms middle
 
     abbrev done : List A
-    done = layer d (placed d side) (up m) (down m) (outputBits m top bottom bits) left
+    done = layer d (placed side) (up m) (down m) (outputBits m top bottom bits) left
 
     level-is : runApply d bits (switches w (split m top bottom) place) xs ≡ done
     unfolding switches
@@ -186,13 +186,13 @@ module _ {A : Type 0} (d : A) {w : Wiring} (L : Lawful w) where
         out = outputBits m top bottom bits
 
         first : length entered ≡ n
-        first = length-layer d (placed d side) (up m) (up m - 1) bits xs ∙ e
+        first = length-layer d (placed side) (up m) (up m - 1) bits xs ∙ e
 
         last : length left ≡ n
         last = low .long ∙ mid .long ∙ first
 
         same : length done ≡ length xs
-        same = length-layer d (placed d side) (up m) (down m) out left ∙ last ∙ sym e
+        same = length-layer d (placed side) (up m) (down m) out left ∙ last ∙ sym e
 
         moves :
             (q : ℕ) → q < m
@@ -202,17 +202,17 @@ module _ {A : Type 0} (d : A) {w : Wiring} (L : Lawful w) where
             let p : Side = turned (crosses (down m) out) s in
             let lp = lies-turned m (down m) out s (omega arith) (below-lies L m q h) in
             ap (λ (z : ℕ). getD done (place z) d) (sym (L .enc-dec (up m) q (omega arith)))
-            ∙ layer-at d (placed d side) (up m) m (down m) out left (rw last (laid-at m place n i)) (omega arith) s (below-lies L m q h)
+            ∙ layer-at d (placed side) (up m) m (down m) out left (rw last (laid-at m place n i)) (omega arith) s (below-lies L m q h)
             ∙ halves-carried m place n i entered middle left f g keeps mid low p lp
-            ∙ layer-at d (placed d side) (up m) m (up m - 1) bits xs (rw e (laid-at m place n i)) (omega arith) (inHalves f g p)
+            ∙ layer-at d (placed side) (up m) m (up m - 1) bits xs (rw e (laid-at m place n i)) (omega arith) (inHalves f g p)
             (lies-halves keeps p lp)
 
         stays : (r : ℕ) → ((q : ℕ) → q < m → r ≢ place q) → getD done r d ≡ getD xs r d
         stays r away =
-            layer-other d (placed d side) (up m) m (down m) out left r (layer-apart m place (down m) r (omega arith) away)
+            layer-other d (placed side) (up m) m (down m) out left r (layer-apart m place (down m) r (omega arith) away)
             ∙ low .others r (λ j h. away (w .enc (up m) (j, true)) (lies-below L m (j, true) (lies-both m (j, true) h)))
             ∙ mid .others r (λ j h. away (w .enc (up m) (j, false)) (lies-below L m (j, false) (lies-top m j h)))
-            ∙ layer-other d (placed d side) (up m) m (up m - 1) bits xs r (layer-apart m place (up m - 1) r (omega arith) away)
+            ∙ layer-other d (placed side) (up m) m (up m - 1) bits xs r (layer-apart m place (up m - 1) r (omega arith) away)
 
   run-carries :
       {m : ℕ} {net : Network} → Sized m net → (n : ℕ) (bits : List ℕ) (place : ℕ → ℕ) (xs : List A) → length xs ≡ n
@@ -222,7 +222,7 @@ module _ {A : Type 0} (d : A) {w : Wiring} (L : Lawful w) where
       record { long = refl; moved = λ q h. refl; others = λ r h. refl }
   run-carries {m} (some {top = top} {bottom = bottom} two t u) n bits place xs e i =
       let first : length (entered m n top bottom bits place i xs e) ≡ n =
-      length-layer d (placed d (at m place)) (up m) (up m - 1) bits xs ∙ e in
+      length-layer d (placed (at m place)) (up m) (up m - 1) bits xs ∙ e in
       let mid = run-carries t n (topBits m bits) (λ j. at m place (j, false)) (entered m n top bottom bits place i xs e) first (inside-top m place n i) in
       let low = run-carries u n (bottomBits m top bits) (λ j. at m place (j, true)) (middle m n top bottom bits place i xs e) (mid .long ∙ first) (inside-bottom m place n i) in
       rw (level-is m n top bottom bits place i xs e)
