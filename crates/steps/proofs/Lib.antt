@@ -1,1 +1,5 @@
 pub mod Cases
+pub mod Places
+pub mod Lookup
+pub mod Running
+pub mod Lengths
