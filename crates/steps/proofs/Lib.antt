@@ -3,3 +3,4 @@ pub mod Places
 pub mod Lookup
 pub mod Running
 pub mod Lengths
+pub mod Sweeps
