@@ -1,0 +1,3 @@
+-- Sides and halves.
+-- Assumes nothing.
+use Prim.Native.Nat.{ℕ}
