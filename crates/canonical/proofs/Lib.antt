@@ -4,3 +4,6 @@ pub mod Marks
 pub mod Round
 pub mod Visits
 pub mod Invariant
+pub mod Rounds
+pub mod Walk
+pub mod Held
