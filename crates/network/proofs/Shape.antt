@@ -119,6 +119,11 @@ unfolding words
 length-words [] = refl
 length-words (e ∷ es) = omega (arith, length-words es)
 
+pub words-append : (es fs : List Entry) → words (es ++ fs) ≡ words es ++ words fs
+unfolding words
+words-append [] fs = refl
+words-append (e ∷ es) fs = ap (λ (l : List ℕ). e .kind ∷ e .first ∷ e .second ∷ l) (words-append es fs)
+
 -- words of entries read again, with fewer than three words more
 pub entries-words-more : (es : List Entry) (rest : List ℕ) → length rest < 3 → entries (words es ++ rest) ≡ es
 unfolding words entries

@@ -1,0 +1,9 @@
+pub mod Sides
+pub mod Rings
+pub mod Marks
+pub mod Round
+pub mod Visits
+pub mod Invariant
+pub mod Rounds
+pub mod Walk
+pub mod Held
