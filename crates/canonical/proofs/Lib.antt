@@ -7,3 +7,4 @@ pub mod Invariant
 pub mod Rounds
 pub mod Walk
 pub mod Held
+pub mod Halves
