@@ -8,3 +8,4 @@ pub mod Rounds
 pub mod Walk
 pub mod Held
 pub mod Halves
+pub mod Setting
