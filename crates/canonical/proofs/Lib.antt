@@ -9,3 +9,4 @@ pub mod Walk
 pub mod Held
 pub mod Halves
 pub mod Setting
+pub mod Only
