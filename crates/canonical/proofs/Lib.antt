@@ -10,3 +10,4 @@ pub mod Held
 pub mod Halves
 pub mod Setting
 pub mod Only
+pub mod Carry

@@ -24,7 +24,7 @@ use Rattle.canonical.proofs.Setting.{setting, canonical-exists}
 
 -- ---- its length
 
-canonical-count : (w : Wiring) (net : Network) (o bits : List ℕ) → Canonical w net o bits → length bits ≡ switchCount net
+pub canonical-count : (w : Wiring) (net : Network) (o bits : List ℕ) → Canonical w net o bits → length bits ≡ switchCount net
 unfolding Canonical switchCount
 canonical-count w wires o bits C = ap length C
 canonical-count w (split m top bottom) o bits C =
