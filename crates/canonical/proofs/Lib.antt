@@ -7,3 +7,7 @@ pub mod Invariant
 pub mod Rounds
 pub mod Walk
 pub mod Held
+pub mod Halves
+pub mod Setting
+pub mod Only
+pub mod Carry

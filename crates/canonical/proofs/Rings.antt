@@ -36,6 +36,22 @@ module _ (k : ℕ) (mate : Side → Side) where
         → ((j : ℕ) → suc j ≡ k → ¬ (Chain mate i j))
         → b i ≡ false
 
+  -- only the bits of the k pairs matter
+  module _ (b e : ℕ → Bool) (same : (i : ℕ) → i < k → b i ≡ e i) where
+    pub proper-same : Matching k mate → Proper b → Proper e
+    unfolding Proper
+    proper-same M B p l =
+        ap (λ c. turn c (mate p .1)) (sym (same (mate p .0) (M .below p l)))
+        ∙ B p l
+        ∙ ap (λ c. not (turn c (p .1))) (same (p .0) l)
+
+    pub ruled-same : Ruled b → Ruled e
+    ruled-same R =
+        record {
+          last-straight = λ i h. sym (same i (omega arith)) ∙ R .last-straight i h;
+          lowest-straight = λ i l lowest apart. sym (same i l) ∙ R .lowest-straight i l lowest apart
+        }
+
   module _ (M : Matching k mate) (b e : ℕ → Bool) (B : Proper b) (E : Proper e) where
     -- two settings that agree at one pair of a ring agree at all
     agree-link : (p : Side) → p .0 < k → b (mate p .0) ≡ e (mate p .0) → b (p .0) ≡ e (p .0)

@@ -10,6 +10,7 @@ use lib.ListN.{length, getD}
 use Rattle.counts.specs.Counts.{up}
 use Rattle.network.specs.Wiring.{Wiring, Side}
 use Rattle.network.specs.Network.{Network, wires, split, down}
+use Rattle.permutation.specs.Permutations.{tabulate}
 
 -- Places and values of a network of k pairs are named alike, by their pair and side. The value that place p holds: for an
 -- odd size the last place is imagined, stands past the end of the order, and holds the value of its own number.
@@ -60,12 +61,10 @@ Finished w m o input output =
     → held w (up m) o p ≡ (j, true)
     → getD output j 0 ≡ cond (half input p) 0 1
 
--- The order of one half (t false: the top), its first c entries. The item that enters the half at place i comes from the
--- place of pair i whose half it is, and has to leave it at the place of its value's pair.
+-- The order of one half (t false: the top) of c places. The item that enters the half at place i comes from that place of
+-- pair i whose half it is, and has to leave it at the place of its value's pair.
 unfoldable pub orderOfHalf : Wiring → ℕ → List ℕ → List ℕ → Bool → ℕ → List ℕ
-orderOfHalf w k o input t zero = []
-orderOfHalf w k o input t (suc i) =
-    orderOfHalf w k o input t i ++ (held w k o (i, half input (i, t)) .0 ∷ [])
+orderOfHalf w k o input t c = tabulate (λ i. held w k o (i, half input (i, t)) .0) c
 
 unfoldable pub Bits : List ℕ → Type 0
 Bits bits = (i : ℕ) → i < length bits → getD bits i 0 < 2
