@@ -1,3 +1,5 @@
 pub mod Round
 pub mod Rounds
 pub mod Turns
+pub mod Table
+pub mod Entering

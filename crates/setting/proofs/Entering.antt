@@ -1,0 +1,222 @@
+-- Before the halves: the rounds and step 4 bring each item to the half that the settled input bits send it to (two places
+-- need neither), and step 5 leaves the orders of the halves there, with the sides on the trails.
+-- Assumes nothing.
+use mathlib.Core.Path.{_≡_, refl, sym, ap, _∙_, subst}
+use mathlib.Core.Logic.{_≢_, _⊎_, inl, inr}
+use mathlib.Core.Bool.{Bool, true, false, not, cond}
+use mathlib.Core.List.{List, [], _∷_, _++_}
+use Prim.Native.Nat.{ℕ, zero, suc, _+_, _-_, _*_, _≤_, _<_}
+use native.Mathlib.Omega.{arith}
+use native.Mathlib.Decide.{ℕ-discrete, decLt}
+use lib.Dec.{ltb, eqb}
+use lib.ListN.{length, getD, take, drop}
+use borrow.Author.Tests.{lt-ltb, le-ltb}
+use Rattle.counts.specs.Counts.{up, W}
+use Rattle.counts.proofs.Rule.{W-more}
+use Rattle.network.specs.Wiring.{Wiring, Lawful, Side}
+use Rattle.network.specs.Network.{down}
+use Rattle.permutation.specs.Permutations.{IsPermutation}
+use Rattle.canonical.specs.Rule.{held, half, HoldAssociates, Apart, LowestStraight, Bits, Ring, here}
+use Rattle.canonical.proofs.Halves.{feeder}
+use Rattle.canonical.proofs.Held.{entry-in}
+use Rattle.steps.specs.Sweeps.{act, each}
+use Rattle.steps.specs.State.{State, Subnetwork}
+use Rattle.steps.specs.Steps.{digit, step4, step5}
+use Rattle.steps.specs.Fold.{roundsOf, inputSteps}
+use Rattle.steps.proofs.Places.{Unlike, sizeOf, half-below, real}
+use Rattle.steps.proofs.Sweeps.{length-each, each-at, each-off, length-act}
+use Rattle.setting.proofs.Round.{Ready}
+use Rattle.setting.proofs.Rounds.{Passed, inputOf, rounds-keep, input-count, input-bits, input-apart, input-lowest}
+use Rattle.setting.proofs.Turns.{part, length-part, turned-real, turned-off, turned-at}
+use Rattle.setting.proofs.Table.{Holding, Off, Outside, Framed}
+
+-- what the rule asks of input bits alone
+pub record Parted (w : Wiring) (m : ℕ) (o input : List ℕ) : Type 0 where
+  pub count : length input ≡ up m - 1
+  pub bits : Bits input
+  pub apart : Apart w (up m) o input
+  pub lowest : LowestStraight w (up m) o input
+
+-- two places have one pair, the last: nothing is to be settled
+two-parted : (w : Wiring) (o : List ℕ) → Parted w 2 o []
+unfolding Bits Apart LowestStraight half
+two-parted w o =
+    record {
+      count = refl;
+      bits = λ i l. absurd (omega arith);
+      apart = λ p q H e.
+        let z : p .0 ≡ q .0 = omega (arith, H .first-below, H .second-below) in
+        let s : p ≡ q = λ i. (z i, e i) in
+        H .two-sides (ap (λ (r : Side). held w 1 o r .1) s);
+      lowest = λ i l apart lowest. refl;
+    }
+
+module _ {w : Wiring} (L : Lawful w) (N : Subnetwork) (U : Unlike (N .size) (N .place)) (two : 2 ≤ N .size) (o : List ℕ)
+    (O : IsPermutation (N .size) o) (x : State) (H : Holding N o x) where
+  abbrev m : ℕ
+  m = N .size
+
+  abbrev k : ℕ
+  k = up (N .size)
+
+  abbrev at : Side → ℕ
+  at p = N .place (w .enc (up (N .size)) p)
+
+  -- the items stand at the half that the input bits send them to
+  pub record Turned (y : State) : Type 0 where
+    pub parted : Parted w (N .size) o (inputOf N (y .bits))
+    pub framed : Framed N (N .bit) (up (N .size) - 1) x y
+    pub sides : (i : ℕ) (t : Bool) → i < sizeOf (N .size) t → i < sizeOf (N .size) (half (inputOf N (y .bits)) (i, t))
+    pub value-at : (i : ℕ) (t : Bool) → i < sizeOf (N .size) t
+        → getD (y .values) (at (i, t)) 0 ≡ getD (x .values) (at (feeder (inputOf N (y .bits)) t i)) 0
+    pub trail-at : (i : ℕ) (t : Bool) → i < sizeOf (N .size) t
+        → getD (y .trails) (at (i, t)) 0 ≡ getD (x .trails) (at (feeder (inputOf N (y .bits)) t i)) 0
+
+  some : 0 < N .size
+  some = omega arith
+
+  bits-fit : N .bit + (k - 1) ≤ length (x .bits)
+  bits-fit = omega (arith, H .bits-room, W-more (N .size) two)
+
+  ready : Ready L N some o O x
+  ready = record { holds = H .order; marks-room = H .marks-room; bits-room = bits-fit }
+
+  same-frame : Framed N (N .bit) (k - 1) x x
+  same-frame =
+      record {
+        values-length = refl;
+        trails-length = refl;
+        marks-length = refl;
+        bits-length = refl;
+        values-off = λ z _. refl;
+        trails-off = λ z _. refl;
+        bits-off = λ q _. refl;
+        unmarked = H .unmarked;
+      }
+
+  -- two places: as it is
+  no-input : N .size ≡ 2 → inputOf N (x .bits) ≡ []
+  no-input e = ap (λ n. take (up n - 1) (drop (N .bit) (x .bits))) e
+
+  small : N .size ≡ 2 → Turned x
+  unfolding half
+  small e =
+      record {
+        parted = rw (no-input e, e) (two-parted w o);
+        framed = same-frame;
+        sides = λ i t l. rw (no-input e) l;
+        value-at = λ i t l. rw (no-input e);
+        trail-at = λ i t l. rw (no-input e);
+      }
+
+  abbrev after : State
+  after = roundsOf w N k x
+
+  P : Passed L N some o O x after
+  P = rounds-keep L N some o O x ready (λ j _. H .unmarked j)
+
+  after-room : N .bit + (k - 1) ≤ length (after .bits)
+  after-room = P .ready .bits-room
+
+  large : Turned (step4 w N after)
+  unfolding step4 Unlike
+  large =
+      record {
+        parted =
+          record {
+            count = input-count L N some o O x ready (λ j _. H .unmarked j);
+            bits = input-bits L N some o O x ready (λ j _. H .unmarked j);
+            apart = input-apart L N some o O x ready (λ j _. H .unmarked j);
+            lowest = input-lowest L N some o O x ready (λ j _. H .unmarked j);
+          };
+        framed =
+          record {
+            values-length = length-act at (after .bits) (N .bit) (after .values) (k - 1) ∙ ap length (P .values-same);
+            trails-length = length-act at (after .bits) (N .bit) (after .trails) (k - 1) ∙ ap length (P .trails-same);
+            marks-length = length-each (λ i. i) (λ i mark. 0) (after .marks) k ∙ P .marks-length;
+            bits-length = P .bits-length;
+            values-off = λ z d. turned-off L m (N .place) U (after .bits) (N .bit) (k - 1) (omega arith) after-room (after .values) z d
+              ∙ ap (λ (l : List ℕ). getD l z 0) (P .values-same);
+            trails-off = λ z d. turned-off L m (N .place) U (after .bits) (N .bit) (k - 1) (omega arith) after-room (after .trails) z d
+              ∙ ap (λ (l : List ℕ). getD l z 0) (P .trails-same);
+            bits-off = P .bits-off;
+            unmarked = clear;
+          };
+        sides = turned-real L m (N .place) U (after .bits) (N .bit) (k - 1) (omega arith) after-room;
+        value-at = λ i t l. turned-at L m (N .place) U (after .bits) (N .bit) (k - 1) (omega arith) after-room (after .values) (λ q lq. rw (P .values-same) (H .values-room q lq)) i t l
+          ∙ ap (λ (xs : List ℕ). getD xs (at (feeder (inputOf N (after .bits)) t i)) 0) (P .values-same);
+        trail-at = λ i t l. turned-at L m (N .place) U (after .bits) (N .bit) (k - 1) (omega arith) after-room (after .trails) (λ q lq. rw (P .trails-same) (H .trails-room q lq)) i t l
+          ∙ ap (λ (xs : List ℕ). getD xs (at (feeder (inputOf N (after .bits)) t i)) 0) (P .trails-same);
+      }
+    where
+      clear : (i : ℕ) → getD (each (λ i. i) k (λ i mark. 0) (after .marks)) i 0 ≡ 0
+      clear i = go (decLt i k)
+        where
+          go : Dec (i < k) → getD (each (λ i. i) k (λ i mark. 0) (after .marks)) i 0 ≡ 0
+          go (yes l) = each-at (λ i. i) (λ i mark. 0) (after .marks) k (λ i j _ _ e. e) (λ j lj. omega (arith, P .ready .marks-room)) i l
+          go (no l) = each-off (λ i. i) (λ i mark. 0) (after .marks) k i (λ j lj e. omega arith) ∙ P .marks-off i (omega arith) ∙ H .unmarked i
+
+  turned : Turned (inputSteps w N x)
+  unfolding inputSteps
+  turned = go (decLt 2 (N .size))
+    where
+      go : Dec (2 < N .size) → Turned (cond (ltb 2 (N .size)) (step4 w N after) x)
+      go (yes h) = rw (lt-ltb 2 (N .size) h) large
+      go (no h) = rw (le-ltb 2 (N .size) (omega arith)) (small (omega arith))
+
+  -- step 5: the orders of the halves, and the sides on the trails
+  abbrev y : State
+  y = inputSteps w N x
+
+  abbrev z : State
+  z = step5 w N (inputSteps w N x)
+
+  abbrev input : List ℕ
+  input = inputOf N (y .bits)
+
+  T : Turned y
+  T = turned
+
+  -- the value that stands at a side
+  standing : (i : ℕ) (t : Bool) → i < sizeOf m t → w .dec k (getD (y .values) (at (i, t)) 0) ≡ held w k o (feeder input t i)
+  unfolding held
+  standing i t l =
+      let q : w .enc k (feeder input t i) < m = real w L m (half input (i, t)) i (T .sides i t l) in
+      ap (w .dec k) (T .value-at i t l ∙ H .order (w .enc k (feeder input t i)) q ∙ sym (entry-in m o O (w .enc k (feeder input t i)) q))
+
+  values-fit : (i : ℕ) → i < m → N .place i < length (y .values)
+  values-fit i l = rw (T .framed .values-length) (H .values-room i l)
+
+  trails-fit : (i : ℕ) → i < m → N .place i < length (y .trails)
+  trails-fit i l = rw (T .framed .trails-length) (H .trails-room i l)
+
+  pub record Entered (z : State) : Type 0 where
+    pub parted : Parted w (N .size) o (inputOf N (z .bits))
+    pub framed : Framed N (N .bit) (up (N .size) - 1) x z
+    pub value-at : (i : ℕ) (t : Bool) → i < sizeOf (N .size) t
+        → getD (z .values) (at (i, t)) 0 ≡ held w (up (N .size)) o (feeder (inputOf N (z .bits)) t i) .0
+    pub trail-at : (i : ℕ) (t : Bool) → i < sizeOf (N .size) t
+        → getD (z .trails) (at (i, t)) 0
+          ≡ getD (x .trails) (at (feeder (inputOf N (z .bits)) t i)) 0 * 2 + digit (held w (up (N .size)) o (feeder (inputOf N (z .bits)) t i) .1)
+
+  pub entered : Entered (step5 w N (inputSteps w N x))
+  unfolding step5
+  entered =
+      record {
+        parted = T .parted;
+        framed =
+          record {
+            values-length = length-each (N .place) _ (y .values) m ∙ T .framed .values-length;
+            trails-length = length-each (N .place) _ (y .trails) m ∙ T .framed .trails-length;
+            marks-length = T .framed .marks-length;
+            bits-length = T .framed .bits-length;
+            values-off = λ q d. each-off (N .place) _ (y .values) m q d ∙ T .framed .values-off q d;
+            trails-off = λ q d. each-off (N .place) _ (y .trails) m q d ∙ T .framed .trails-off q d;
+            bits-off = T .framed .bits-off;
+            unmarked = T .framed .unmarked;
+          };
+        value-at = λ i t l. each-at (N .place) _ (y .values) m U values-fit (w .enc k (i, t)) (real w L m t i l)
+          ∙ ap (λ (v : Side). v .0) (standing i t l);
+        trail-at = λ i t l. each-at (N .place) _ (y .trails) m U trails-fit (w .enc k (i, t)) (real w L m t i l)
+          ∙ rw (T .trail-at i t l, standing i t l);
+      }
