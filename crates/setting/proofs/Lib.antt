@@ -3,3 +3,4 @@ pub mod Rounds
 pub mod Turns
 pub mod Table
 pub mod Entering
+pub mod Leaving
