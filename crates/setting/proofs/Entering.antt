@@ -27,7 +27,7 @@ use Rattle.steps.proofs.Places.{Unlike, sizeOf, half-below, real}
 use Rattle.steps.proofs.Sweeps.{length-each, each-at, each-off, length-act}
 use Rattle.setting.proofs.Round.{Ready}
 use Rattle.setting.proofs.Rounds.{Passed, inputOf, rounds-keep, input-count, input-bits, input-apart, input-lowest}
-use Rattle.setting.proofs.Turns.{part, length-part, turned-real, turned-off, turned-at}
+use Rattle.setting.proofs.Turns.{turned-real, turned-off, turned-at}
 use Rattle.setting.proofs.Table.{Holding, Off, Outside, Framed}
 
 -- what the rule asks of input bits alone

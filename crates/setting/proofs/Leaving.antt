@@ -24,7 +24,8 @@ use Rattle.steps.specs.State.{State, Subnetwork, outputBit}
 use Rattle.steps.specs.Steps.{digit, step6}
 use Rattle.steps.proofs.Places.{Unlike, sizeOf, half-below, real, real⁻}
 use Rattle.steps.proofs.Sweeps.{length-each, each-at, each-off, length-act}
-use Rattle.setting.proofs.Turns.{part, length-part, part-at, turned-real, turned-off, turned-at}
+use Rattle.setting.proofs.Parts.{part, length-part, part-at}
+use Rattle.setting.proofs.Turns.{turned-real, turned-off, turned-at}
 use Rattle.setting.proofs.Table.{Off, Outside, Framed}
 
 last-digit : (t : ℕ) (u : Bool) → (t * 2 + digit u) % 2 ≡ digit u

@@ -8,8 +8,7 @@ use Prim.Native.Nat.{ℕ, zero, suc, _+_, _-_, _≤_, _<_}
 use native.Mathlib.Omega.{arith}
 use native.Mathlib.Decide.{ℕ-discrete, decLt}
 use lib.Dec.{ltb, eqb}
-use lib.ListN.{length, getD, take, drop, length-take, length-drop, List·getD-eq-default}
-use lib.Seq.{getD-take, getD-drop, length-take-le}
+use lib.ListN.{length, getD, List·getD-eq-default}
 use borrow.Author.Tests.{lt-ltb, le-ltb, eq-eqb, ne-eqb, eqb-true}
 use Rattle.counts.specs.Counts.{up}
 use Rattle.network.specs.Wiring.{Wiring, Lawful, Side}
@@ -26,11 +25,12 @@ use Rattle.steps.specs.State.{State, Subnetwork}
 use Rattle.steps.specs.Steps.{step1, step2, step3}
 use Rattle.steps.specs.Fold.{roundsOf}
 use Rattle.steps.proofs.Sweeps.{length-store, store-off}
+use Rattle.setting.proofs.Parts.{part, length-part, part-at}
 use Rattle.setting.proofs.Round.{stage, Ready, Loaded, none-marked, some-marked, round, ready-after, places-after, digits-after, old-bit}
 
 -- the input bits of a network, of all bits
 abbrev pub inputOf : Subnetwork → List ℕ → List ℕ
-inputOf N bits = take (up (N .size) - 1) (drop (N .bit) bits)
+inputOf N bits = part (N .bit) (up (N .size) - 1) bits
 
 module _ {w : Wiring} (L : Lawful w) (N : Subnetwork) (some : 0 < N .size) (o : List ℕ) (O : IsPermutation (N .size) o) where
   abbrev k : ℕ
@@ -195,10 +195,10 @@ module _ {w : Wiring} (L : Lawful w) (N : Subnetwork) (some : 0 < N .size) (o : 
     room = rounds-keep .ready .bits-room
 
     pub input-count : length input ≡ k - 1
-    input-count = length-take-le (k - 1) (drop (N .bit) (after .bits)) (rw length-drop (omega (arith, room)))
+    input-count = length-part (N .bit) (k - 1) (after .bits) room
 
     input-at : (i : ℕ) → suc i < k → getD input i 0 ≡ getD (after .bits) (N .bit + i) 0
-    input-at i l = getD-take (k - 1) (drop (N .bit) (after .bits)) i 0 (omega arith) ∙ getD-drop (N .bit) (after .bits) i 0
+    input-at i l = part-at (N .bit) (k - 1) (after .bits) i (omega arith)
 
     pub input-bits : Bits input
     unfolding Bits Digits

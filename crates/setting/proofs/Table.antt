@@ -4,6 +4,7 @@ use mathlib.Core.Path.{_≡_, refl, sym, ap, _∙_}
 use mathlib.Core.Logic.{_≢_, _⊎_, inl, inr}
 use mathlib.Core.List.{List}
 use Prim.Native.Nat.{ℕ, _+_, _≤_, _<_}
+use native.Mathlib.Omega.{arith}
 use lib.ListN.{length, getD}
 use Rattle.counts.specs.Counts.{up, W}
 use Rattle.steps.specs.State.{State, Subnetwork}
@@ -35,3 +36,36 @@ pub record Framed (N : Subnetwork) (b n : ℕ) (x y : State) : Type 0 where
   pub trails-off : (z : ℕ) → Off N z → getD (y .trails) z 0 ≡ getD (x .trails) z 0
   pub bits-off : (q : ℕ) → Outside b n q → getD (y .bits) q 0 ≡ getD (x .bits) q 0
   pub unmarked : (i : ℕ) → getD (y .marks) i 0 ≡ 0
+
+pub framed-then : {N : Subnetwork} {b n : ℕ} {x y z : State} → Framed N b n x y → Framed N b n y z → Framed N b n x z
+framed-then F G =
+    record {
+      values-length = G .values-length ∙ F .values-length;
+      trails-length = G .trails-length ∙ F .trails-length;
+      marks-length = G .marks-length ∙ F .marks-length;
+      bits-length = G .bits-length ∙ F .bits-length;
+      values-off = λ z d. G .values-off z d ∙ F .values-off z d;
+      trails-off = λ z d. G .trails-off z d ∙ F .trails-off z d;
+      bits-off = λ q d. G .bits-off q d ∙ F .bits-off q d;
+      unmarked = G .unmarked;
+    }
+
+-- more places, more bits
+pub framed-wider : {M : Subnetwork} {a c : ℕ} {x y : State} (N : Subnetwork) (b n : ℕ) → ((z : ℕ) → Off N z → Off M z)
+    → ((q : ℕ) → Outside b n q → Outside a c q) → Framed M a c x y → Framed N b n x y
+framed-wider N b n f g F =
+    record {
+      values-length = F .values-length;
+      trails-length = F .trails-length;
+      marks-length = F .marks-length;
+      bits-length = F .bits-length;
+      values-off = λ z d. F .values-off z (f z d);
+      trails-off = λ z d. F .trails-off z (f z d);
+      bits-off = λ q d. F .bits-off q (g q d);
+      unmarked = F .unmarked;
+    }
+
+-- a smaller range of bits
+pub outside-wider : (a c b n q : ℕ) → b ≤ a → a + c ≤ b + n → Outside b n q → Outside a c q
+outside-wider a c b n q l h (inl d) = inl (omega arith)
+outside-wider a c b n q l h (inr d) = inr (omega arith)

@@ -8,8 +8,7 @@ use Prim.Native.Nat.{ℕ, zero, suc, _+_, _-_, _≤_, _<_}
 use native.Mathlib.Omega.{arith}
 use native.Mathlib.Decide.{decLt}
 use lib.Dec.{eqb}
-use lib.ListN.{length, getD, take, drop, length-drop, List·getD-eq-default}
-use lib.Seq.{getD-take, getD-drop, length-take-le}
+use lib.ListN.{length, getD, List·getD-eq-default}
 use Rattle.counts.specs.Counts.{up}
 use Rattle.network.specs.Wiring.{Wiring, Lawful, Side}
 use Rattle.network.specs.Network.{down}
@@ -17,16 +16,7 @@ use Rattle.canonical.specs.Rule.{half}
 use Rattle.steps.specs.Sweeps.{act}
 use Rattle.steps.proofs.Places.{Unlike, sizeOf, half-below, real, enc-inj}
 use Rattle.steps.proofs.Sweeps.{SidesUnlike, act-at, act-off}
-
--- n bits from position b on
-abbrev pub part : ℕ → ℕ → List ℕ → List ℕ
-part b n bits = take n (drop b bits)
-
-pub length-part : (b n : ℕ) (bits : List ℕ) → b + n ≤ length bits → length (part b n bits) ≡ n
-length-part b n bits h = length-take-le n (drop b bits) (rw length-drop (omega arith))
-
-pub part-at : (b n : ℕ) (bits : List ℕ) (i : ℕ) → i < n → getD (part b n bits) i 0 ≡ getD bits (b + i) 0
-part-at b n bits i l = getD-take n (drop b bits) i 0 l ∙ getD-drop b bits i 0
+use Rattle.setting.proofs.Parts.{part, length-part, part-at}
 
 module _ {w : Wiring} (L : Lawful w) (m : ℕ) (place : ℕ → ℕ) (U : Unlike m place) (bits : List ℕ) (b c : ℕ) (few : c ≤ down m)
     (room : b + c ≤ length bits) where
