@@ -5,3 +5,5 @@ pub mod Rounds
 pub mod Turns
 pub mod Entering
 pub mod Leaving
+pub mod Level
+pub mod Whole

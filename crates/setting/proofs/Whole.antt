@@ -1,0 +1,128 @@
+-- The setter's theorem: the steps in their sequence set the bits of an order canonically; so does running the entries.
+-- Assumes nothing.
+use mathlib.Core.Path.{_≡_, refl, sym, ap, _∙_, subst}
+use mathlib.Core.Logic.{_⊎_, inl, inr}
+use mathlib.Core.Bool.{Bool, true, false}
+use mathlib.Core.List.{List, [], _∷_, _++_}
+use Prim.Native.Nat.{ℕ, zero, suc, _+_, _-_, _≤_, _<_}
+use native.Mathlib.Omega.{arith}
+use lib.ListN.{length, getD, take, drop, replicate, length-replicate}
+use lib.Seq.{take-all}
+use Rattle.counts.specs.Counts.{up, W}
+use Rattle.counts.proofs.Rule.{W-none}
+use Rattle.network.specs.Wiring.{Wiring, Lawful, Side, paper}
+use Rattle.network.specs.Network.{Network, wires, split, network, switchCount, down}
+use Rattle.network.proofs.Shape.{Sized, none, some, sized, count-of}
+use Rattle.network.proofs.Paper.{paper-lawful}
+use Rattle.permutation.specs.Permutations.{IsPermutation}
+use Rattle.canonical.specs.Rule.{Canonical}
+use Rattle.steps.specs.State.{State, Subnetwork, start}
+use Rattle.steps.specs.Steps.{step5, step6}
+use Rattle.steps.specs.Sequence.{setEntries}
+use Rattle.steps.specs.Run.{runSet, settingOf}
+use Rattle.steps.specs.Fold.{inputSteps, setNet}
+use Rattle.steps.proofs.Places.{Unlike, half-unlike}
+use Rattle.steps.proofs.Running.{run-is-fold}
+use Rattle.setting.proofs.Parts.{part}
+use Rattle.setting.proofs.Table.{Holding, Framed}
+use Rattle.setting.proofs.Level.{Sets, halfOf, orderIn, half-order, top-holding, bottom-holding, level}
+
+abbrev pub at : (ℕ → ℕ) → ℕ → ℕ → Subnetwork
+at place m bit = record { place = place; size = m; bit = bit }
+
+-- fewer than two places: there is nothing to do
+nothing : (w : Wiring) (m : ℕ) (place : ℕ → ℕ) (bit : ℕ) (o : List ℕ) (x : State) → m < 2 → IsPermutation m o → Holding (at place m bit) o x
+    → Sets w wires (at place m bit) o x x
+unfolding Canonical
+nothing w m place bit o x h O H =
+    record {
+      framed =
+        record {
+          values-length = refl;
+          trails-length = refl;
+          marks-length = refl;
+          bits-length = refl;
+          values-off = λ z _. refl;
+          trails-off = λ z _. refl;
+          bits-off = λ q _. refl;
+          unmarked = H .unmarked;
+        };
+      sorted = λ i l. H .order i l ∙ home i l;
+      carried = λ i l. ap (λ q. getD (x .trails) (place q) 0) (home i l);
+      canonical = ap (λ n. part bit n (x .bits)) (W-none m h);
+    }
+  where
+    home : (i : ℕ) → i < m → getD o i 0 ≡ i
+    home i l = omega (arith, O .below i l)
+
+module _ {w : Wiring} (L : Lawful w) where
+  pub net-sets : {m : ℕ} {net : Network} (place : ℕ → ℕ) (bit : ℕ) → Sized m net → Unlike m place → (o : List ℕ) → IsPermutation m o
+      → (x : State) → Holding (at place m bit) o x → Sets w net (at place m bit) o x (setNet w net place bit x)
+  unfolding setNet
+  net-sets {m} place bit (none h) U o O x H = nothing w m place bit o x h O H
+  net-sets {m} place bit (some {top = top} {bottom = bottom} two t b) U o O x H =
+      let N : Subnetwork = at place m bit in
+      let z : State = step5 w N (inputSteps w N x) in
+      let above = net-sets (halfOf w N false .place) (halfOf w N false .bit) t (half-unlike w L m place U false)
+          (orderIn L N U two o O x H false) (half-order L N U two o O x H false) z (top-holding L N U two o O x H) in
+      let from-top : State = setNet w top (halfOf w N false .place) (halfOf w N false .bit) z in
+      let below = net-sets (halfOf w N true .place) (halfOf w N true .bit) b (half-unlike w L m place U true)
+          (orderIn L N U two o O x H true) (half-order L N U two o O x H true) from-top (bottom-holding L N U two o O x H top from-top above) in
+      rw (count-of t)
+      (level L N U two o O x H top from-top above bottom (setNet w bottom (halfOf w N true .place) (halfOf w N true .bit) from-top) below)
+
+  -- a table that holds the order, whose trails and marks are empty, and whose bits and numbers f, c, g, s are any
+  pub record Begins (n : ℕ) (o : List ℕ) (x : State) : Type 0 where
+    pub values-are : x .values ≡ o
+    pub trails-count : length (x .trails) ≡ n
+    pub marks-count : length (x .marks) ≡ up n
+    pub bits-count : length (x .bits) ≡ W n
+    pub unmarked : (i : ℕ) → getD (x .marks) i 0 ≡ 0
+
+  module _ (n : ℕ) (o : List ℕ) (O : IsPermutation n o) (x : State) (B : Begins n o x) where
+    begins : Holding (at (λ i. i) n 0) o x
+    begins =
+        record {
+          values-room = λ i l. rw (B .values-are) (omega (arith, O .whole));
+          trails-room = λ i l. omega (arith, B .trails-count);
+          marks-room = omega (arith, B .marks-count);
+          bits-room = omega (arith, B .bits-count);
+          unmarked = B .unmarked;
+          order = λ i l. ap (λ (xs : List ℕ). getD xs i 0) (B .values-are);
+        }
+
+    pub whole-sets : Sets w (network n) (at (λ i. i) n 0) o x (setNet w (network n) (λ i. i) 0 x)
+    unfolding Unlike
+    whole-sets = net-sets (λ i. i) 0 (sized n) (λ i j _ _ e. e) o O x begins
+
+    -- the setter's theorem
+    pub fold-canonical : Canonical w (network n) o (setNet w (network n) (λ i. i) 0 x .bits)
+    fold-canonical =
+        subst (Canonical w (network n) o)
+        (take-all (W n) (setNet w (network n) (λ i. i) 0 x .bits) (omega (arith, whole-sets .framed .bits-length, B .bits-count)))
+        (whole-sets .canonical)
+
+    pub run-canonical : Canonical w (network n) o (runSet w n (setEntries w n) x .bits)
+    run-canonical = rw (run-is-fold w L n x) fold-canonical
+
+  blank : (n i : ℕ) → _≡_ {A = ℕ} (getD (replicate n 0) i 0) 0
+  blank zero i = refl
+  blank (suc n) zero = refl
+  blank (suc n) (suc i) = blank n i
+
+  -- the table as it starts
+  pub start-begins : (n : ℕ) (o : List ℕ) → IsPermutation n o → Begins n o (start o)
+  start-begins n o O =
+      record {
+        values-are = refl;
+        trails-count = length-replicate (length o) 0 ∙ O .whole;
+        marks-count = length-replicate (up (length o)) 0 ∙ ap up (O .whole);
+        bits-count = length-replicate (W (length o)) 0 ∙ ap W (O .whole);
+        unmarked = blank (up (length o));
+      }
+
+  -- the setting that the log of an order leaves is the canonical one
+  pub setting-canonical : (n : ℕ) (o : List ℕ) → IsPermutation n o → Canonical w (network n) o (settingOf w o (setEntries w n))
+  setting-canonical n o O =
+      subst (λ j. Canonical w (network n) o (runSet w j (setEntries w n) (start o) .bits)) (sym (O .whole))
+      (run-canonical n o O (start o) (start-begins n o O))
