@@ -45,9 +45,9 @@ two-parted w o =
       count = refl;
       bits = λ i l. absurd (omega arith);
       apart = λ p q H e.
-        let z : p .0 ≡ q .0 = omega (arith, H .first-below, H .second-below) in
-        let s : p ≡ q = λ i. (z i, e i) in
-        H .two-sides (ap (λ (r : Side). held w 1 o r .1) s);
+          let z : p .0 ≡ q .0 = omega (arith, H .first-below, H .second-below) in
+          let s : p ≡ q = λ i. (z i, e i) in
+          H .two-sides (ap (λ (r : Side). held w 1 o r .1) s);
       lowest = λ i l apart lowest. refl;
     }
 
@@ -123,30 +123,30 @@ module _ {w : Wiring} (L : Lawful w) (N : Subnetwork) (U : Unlike (N .size) (N .
   large =
       record {
         parted =
-          record {
-            count = input-count L N some o O x ready (λ j _. H .unmarked j);
-            bits = input-bits L N some o O x ready (λ j _. H .unmarked j);
-            apart = input-apart L N some o O x ready (λ j _. H .unmarked j);
-            lowest = input-lowest L N some o O x ready (λ j _. H .unmarked j);
-          };
+            record {
+              count = input-count L N some o O x ready (λ j _. H .unmarked j);
+              bits = input-bits L N some o O x ready (λ j _. H .unmarked j);
+              apart = input-apart L N some o O x ready (λ j _. H .unmarked j);
+              lowest = input-lowest L N some o O x ready (λ j _. H .unmarked j);
+            };
         framed =
-          record {
-            values-length = length-act at (after .bits) (N .bit) (after .values) (k - 1) ∙ ap length (P .values-same);
-            trails-length = length-act at (after .bits) (N .bit) (after .trails) (k - 1) ∙ ap length (P .trails-same);
-            marks-length = length-each (λ i. i) (λ i mark. 0) (after .marks) k ∙ P .marks-length;
-            bits-length = P .bits-length;
-            values-off = λ z d. turned-off L m (N .place) U (after .bits) (N .bit) (k - 1) (omega arith) after-room (after .values) z d
-              ∙ ap (λ (l : List ℕ). getD l z 0) (P .values-same);
-            trails-off = λ z d. turned-off L m (N .place) U (after .bits) (N .bit) (k - 1) (omega arith) after-room (after .trails) z d
-              ∙ ap (λ (l : List ℕ). getD l z 0) (P .trails-same);
-            bits-off = P .bits-off;
-            unmarked = clear;
-          };
+            record {
+              values-length = length-act at (after .bits) (N .bit) (after .values) (k - 1) ∙ ap length (P .values-same);
+              trails-length = length-act at (after .bits) (N .bit) (after .trails) (k - 1) ∙ ap length (P .trails-same);
+              marks-length = length-each (λ i. i) (λ i mark. 0) (after .marks) k ∙ P .marks-length;
+              bits-length = P .bits-length;
+              values-off = λ z d. turned-off L m (N .place) U (after .bits) (N .bit) (k - 1) (omega arith) after-room (after .values) z d
+                  ∙ ap (λ (l : List ℕ). getD l z 0) (P .values-same);
+              trails-off = λ z d. turned-off L m (N .place) U (after .bits) (N .bit) (k - 1) (omega arith) after-room (after .trails) z d
+                  ∙ ap (λ (l : List ℕ). getD l z 0) (P .trails-same);
+              bits-off = P .bits-off;
+              unmarked = clear;
+            };
         sides = turned-real L m (N .place) U (after .bits) (N .bit) (k - 1) (omega arith) after-room;
         value-at = λ i t l. turned-at L m (N .place) U (after .bits) (N .bit) (k - 1) (omega arith) after-room (after .values) (λ q lq. rw (P .values-same) (H .values-room q lq)) i t l
-          ∙ ap (λ (xs : List ℕ). getD xs (at (feeder (inputOf N (after .bits)) t i)) 0) (P .values-same);
+            ∙ ap (λ (xs : List ℕ). getD xs (at (feeder (inputOf N (after .bits)) t i)) 0) (P .values-same);
         trail-at = λ i t l. turned-at L m (N .place) U (after .bits) (N .bit) (k - 1) (omega arith) after-room (after .trails) (λ q lq. rw (P .trails-same) (H .trails-room q lq)) i t l
-          ∙ ap (λ (xs : List ℕ). getD xs (at (feeder (inputOf N (after .bits)) t i)) 0) (P .trails-same);
+            ∙ ap (λ (xs : List ℕ). getD xs (at (feeder (inputOf N (after .bits)) t i)) 0) (P .trails-same);
       }
     where
       clear : (i : ℕ) → getD (each (λ i. i) k (λ i mark. 0) (after .marks)) i 0 ≡ 0
@@ -197,7 +197,7 @@ module _ {w : Wiring} (L : Lawful w) (N : Subnetwork) (U : Unlike (N .size) (N .
         → getD (z .values) (at (i, t)) 0 ≡ held w (up (N .size)) o (feeder (inputOf N (z .bits)) t i) .0
     pub trail-at : (i : ℕ) (t : Bool) → i < sizeOf (N .size) t
         → getD (z .trails) (at (i, t)) 0
-          ≡ getD (x .trails) (at (feeder (inputOf N (z .bits)) t i)) 0 * 2 + digit (held w (up (N .size)) o (feeder (inputOf N (z .bits)) t i) .1)
+        ≡ getD (x .trails) (at (feeder (inputOf N (z .bits)) t i)) 0 * 2 + digit (held w (up (N .size)) o (feeder (inputOf N (z .bits)) t i) .1)
 
   pub entered : Entered (step5 w N (inputSteps w N x))
   unfolding step5
@@ -205,18 +205,18 @@ module _ {w : Wiring} (L : Lawful w) (N : Subnetwork) (U : Unlike (N .size) (N .
       record {
         parted = T .parted;
         framed =
-          record {
-            values-length = length-each (N .place) _ (y .values) m ∙ T .framed .values-length;
-            trails-length = length-each (N .place) _ (y .trails) m ∙ T .framed .trails-length;
-            marks-length = T .framed .marks-length;
-            bits-length = T .framed .bits-length;
-            values-off = λ q d. each-off (N .place) _ (y .values) m q d ∙ T .framed .values-off q d;
-            trails-off = λ q d. each-off (N .place) _ (y .trails) m q d ∙ T .framed .trails-off q d;
-            bits-off = T .framed .bits-off;
-            unmarked = T .framed .unmarked;
-          };
+            record {
+              values-length = length-each (N .place) _ (y .values) m ∙ T .framed .values-length;
+              trails-length = length-each (N .place) _ (y .trails) m ∙ T .framed .trails-length;
+              marks-length = T .framed .marks-length;
+              bits-length = T .framed .bits-length;
+              values-off = λ q d. each-off (N .place) _ (y .values) m q d ∙ T .framed .values-off q d;
+              trails-off = λ q d. each-off (N .place) _ (y .trails) m q d ∙ T .framed .trails-off q d;
+              bits-off = T .framed .bits-off;
+              unmarked = T .framed .unmarked;
+            };
         value-at = λ i t l. each-at (N .place) _ (y .values) m U values-fit (w .enc k (i, t)) (real w L m t i l)
-          ∙ ap (λ (v : Side). v .0) (standing i t l);
+            ∙ ap (λ (v : Side). v .0) (standing i t l);
         trail-at = λ i t l. each-at (N .place) _ (y .trails) m U trails-fit (w .enc k (i, t)) (real w L m t i l)
-          ∙ rw (T .trail-at i t l, standing i t l);
+            ∙ rw (T .trail-at i t l, standing i t l);
       }

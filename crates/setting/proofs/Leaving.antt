@@ -25,6 +25,7 @@ use Rattle.steps.specs.Steps.{digit, step6}
 use Rattle.steps.proofs.Places.{Unlike, sizeOf, half-below, real, real⁻}
 use Rattle.steps.proofs.Sweeps.{length-each, each-at, each-off, length-act}
 use Rattle.setting.proofs.Parts.{part, length-part, part-at}
+use Rattle.setting.proofs.Round.{digit-is}
 use Rattle.setting.proofs.Turns.{turned-real, turned-off, turned-at}
 use Rattle.setting.proofs.Table.{Off, Outside, Framed}
 
@@ -35,10 +36,6 @@ last-digit t false = omega arith
 other-digits : (t : ℕ) (u : Bool) → (t * 2 + digit u) / 2 ≡ t
 other-digits t true = omega arith
 other-digits t false = omega arith
-
-digit-is : (u : Bool) → eqb (digit u) 1 ≡ u
-digit-is true = refl
-digit-is false = refl
 
 module _ {w : Wiring} (L : Lawful w) (N : Subnetwork) (U : Unlike (N .size) (N .place)) (some : 0 < N .size) (o : List ℕ)
     (O : IsPermutation (N .size) o) (input : List ℕ) (count : length input ≡ up (N .size) - 1) (A : Apart w (up (N .size)) o input) where
@@ -251,16 +248,16 @@ module _ {w : Wiring} (L : Lawful w) (N : Subnetwork) (U : Unlike (N .size) (N .
     left =
         record {
           framed =
-            record {
-              values-length = length-each (N .place) _ values′ m ∙ length-act at bits′ (outputBit N) (x .values) h;
-              trails-length = length-each (N .place) _ trails′ m ∙ length-act at bits′ (outputBit N) (x .trails) h;
-              marks-length = refl;
-              bits-length = bits-length;
-              values-off = λ q d. each-off (N .place) _ values′ m q d ∙ turned-off L m (N .place) U bits′ (outputBit N) h few room (x .values) q d;
-              trails-off = λ q d. each-off (N .place) _ trails′ m q d ∙ turned-off L m (N .place) U bits′ (outputBit N) h few room (x .trails) q d;
-              bits-off = λ q d. each-off (λ i. outputBit N + i) _ (x .bits) h q (apart q d);
-              unmarked = H .unmarked;
-            };
+              record {
+                values-length = length-each (N .place) _ values′ m ∙ length-act at bits′ (outputBit N) (x .values) h;
+                trails-length = length-each (N .place) _ trails′ m ∙ length-act at bits′ (outputBit N) (x .trails) h;
+                marks-length = refl;
+                bits-length = bits-length;
+                values-off = λ q d. each-off (N .place) _ values′ m q d ∙ turned-off L m (N .place) U bits′ (outputBit N) h few room (x .values) q d;
+                trails-off = λ q d. each-off (N .place) _ trails′ m q d ∙ turned-off L m (N .place) U bits′ (outputBit N) h few room (x .trails) q d;
+                bits-off = λ q d. each-off (λ i. outputBit N + i) _ (x .bits) h q (apart q d);
+                unmarked = H .unmarked;
+              };
           finishes = finished;
           sorted = sorted-after;
           carried = carried-after;

@@ -195,9 +195,9 @@ module _ {w : Wiring} (L : Lawful w) (N : Subnetwork) (U : Unlike (N .size) (N .
       input-stays =
           same-part (N .bit) (k - 1) (z .bits) (y .bits) (omega (arith, to-z .bits-length, H .bits-room, count)) (to-y .bits-length ∙ sym (to-z .bits-length))
           (λ q l h.
-            leaves .framed .bits-off q (inl (omega (arith, out-is)))
-            ∙ B .framed .bits-off q (inl (omega arith))
-            ∙ A .framed .bits-off q (inl (omega arith)))
+          leaves .framed .bits-off q (inl (omega (arith, out-is)))
+          ∙ B .framed .bits-off q (inl (omega arith))
+          ∙ A .framed .bits-off q (inl (omega arith)))
 
       top-stays : part (halfBit N false) (W k) (y .bits) ≡ part (halfBit N false) (W k) (a .bits)
       top-stays =
@@ -238,22 +238,22 @@ module _ {w : Wiring} (L : Lawful w) (N : Subnetwork) (U : Unlike (N .size) (N .
             sorted = leaves .sorted;
             carried = leaves .carried;
             canonical =
-              record {
-                input = input;
-                top = part (halfBit N false) (W k) (a .bits);
-                bottom = part (halfBit N true) (W (down m)) (b .bits);
-                output = part (outputBit N) (down m) (y .bits);
-                in-sequence = in-sequence;
-                settled =
-                  record {
-                    input-count = E .parted .count;
-                    output-count = length-part (outputBit N) (down m) (y .bits) (omega (arith, to-y .bits-length, H .bits-room, count, out-is));
-                    input-bits = E .parted .bits;
-                    apart = E .parted .apart;
-                    lowest-straight = E .parted .lowest;
-                    finished = leaves .finishes;
-                  };
-                in-top = A .canonical;
-                in-bottom = B .canonical;
-              };
+                record {
+                  input = input;
+                  top = part (halfBit N false) (W k) (a .bits);
+                  bottom = part (halfBit N true) (W (down m)) (b .bits);
+                  output = part (outputBit N) (down m) (y .bits);
+                  in-sequence = in-sequence;
+                  settled =
+                      record {
+                        input-count = E .parted .count;
+                        output-count = length-part (outputBit N) (down m) (y .bits) (omega (arith, to-y .bits-length, H .bits-room, count, out-is));
+                        input-bits = E .parted .bits;
+                        apart = E .parted .apart;
+                        lowest-straight = E .parted .lowest;
+                        finished = leaves .finishes;
+                      };
+                  in-top = A .canonical;
+                  in-bottom = B .canonical;
+                };
           }

@@ -26,5 +26,5 @@ same-part b n xs ys h e f =
     ext-getD 0 (part b n ys) (part b n xs)
     (length-part b n ys (omega arith) ∙ sym (length-part b n xs h))
     (λ i l.
-      let i< : i < n = omega (arith, length-part b n ys (omega arith)) in
-      part-at b n ys i i< ∙ f (b + i) (omega arith) (omega arith) ∙ sym (part-at b n xs i i<))
+    let i< : i < n = omega (arith, length-part b n ys (omega arith)) in
+    part-at b n ys i i< ∙ f (b + i) (omega arith) (omega arith) ∙ sym (part-at b n xs i i<))

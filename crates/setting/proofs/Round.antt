@@ -46,7 +46,7 @@ pub some-marked : (marks : List ℕ) (k j : ℕ) → j < k → marked marks j �
 some-marked marks k j l h =
     ne-eqb _ _ (λ e. false≢true (sym (ap not h) ∙ all-good (λ i. not (marked marks i)) k e j l))
 
-digit-is : (t : Bool) → eqb (digit t) 1 ≡ t
+pub digit-is : (t : Bool) → eqb (digit t) 1 ≡ t
 digit-is true = refl
 digit-is false = refl
 
@@ -208,14 +208,15 @@ module _ {w : Wiring} (L : Lawful w) (N : Subnetwork) (some : 0 < N .size) (o : 
           bit-last = λ j e. last-bit z j e ∙ sym (last-bit x j e);
           bit-old = λ j _ d. rw (old-mark j d, old-bit (N .bit + j) (λ _ q. d (omega arith)));
           go-on = λ d.
-            let e : eqb (w .enc k (s .0, not (s .1))) (x .c) ≡ false
-                = ne-eqb _ _ (λ q. d (sym (L .dec-enc k (s .0, not (s .1)) s<) ∙ ap (w .dec k) q)) in
-            (ap (w .dec k) (f-after ∙ rw e) ∙ L .dec-enc k (s .0, not (s .1)) s<, ap (w .dec k) (c-after ∙ rw e));
+              let e : eqb (w .enc k (s .0, not (s .1))) (x .c) ≡ false
+              = ne-eqb _ _ (λ q. d (sym (L .dec-enc k (s .0, not (s .1)) s<) ∙ ap (w .dec k) q)) in
+              (ap (w .dec k) (f-after ∙ rw e) ∙ L .dec-enc k (s .0, not (s .1)) s<, ap (w .dec k) (c-after ∙ rw e));
           again = λ q j l.
-            let e : eqb (w .enc k (s .0, not (s .1))) (x .c) ≡ true = eq-eqb _ _ (ap (w .enc k) q ∙ c-is) in
-            let u : low ≡ j = lowest-is (z .marks) k j l in
-            (ap (w .dec k) (f-after ∙ rw (e, u, lt-ltb j k (l .below))) ∙ L .dec-enc k (j, false) (l .below),
-              ap (w .dec k) (c-after ∙ rw (e, u, lt-ltb j k (l .below))) ∙ L .dec-enc k (j, false) (l .below));
+              let e : eqb (w .enc k (s .0, not (s .1))) (x .c) ≡ true = eq-eqb _ _ (ap (w .enc k) q ∙ c-is) in
+              let u : low ≡ j = lowest-is (z .marks) k j l in (
+                ap (w .dec k) (f-after ∙ rw (e, u, lt-ltb j k (l .below))) ∙ L .dec-enc k (j, false) (l .below),
+                ap (w .dec k) (c-after ∙ rw (e, u, lt-ltb j k (l .below))) ∙ L .dec-enc k (j, false) (l .below),
+              );
         }
 
     low-below : (t : Bool) → cond t (ltb low k) false ≡ true → low < k

@@ -14,8 +14,8 @@ use Rattle.counts.specs.Counts.{up}
 use Rattle.network.specs.Wiring.{Wiring, Lawful, Side}
 use Rattle.permutation.specs.Permutations.{IsPermutation}
 use Rattle.canonical.specs.Rule.{Apart, LowestStraight, Bits}
-use Rattle.canonical.proofs.Sides.{clash, turn}
-use Rattle.canonical.proofs.Rings.{Proper, Ruled}
+use Rattle.canonical.proofs.Sides.{clash}
+use Rattle.canonical.proofs.Rings.{Matching, Proper, Ruled, proper-same, ruled-same}
 use Rattle.canonical.proofs.Round.{Stage, Begun, Round, Done}
 use Rattle.canonical.proofs.Rounds.{all-rounds, done-proper, done-ruled}
 use Rattle.canonical.proofs.Held.{mate, mate-below, matching, proper-apart, ruled-lowest}
@@ -35,6 +35,9 @@ inputOf N bits = part (N .bit) (up (N .size) - 1) bits
 module _ {w : Wiring} (L : Lawful w) (N : Subnetwork) (some : 0 < N .size) (o : List ℕ) (O : IsPermutation (N .size) o) where
   abbrev k : ℕ
   k = up (N .size)
+
+  pairs : Matching k (mate w k o)
+  pairs = matching L k (N .size) (omega arith) o O
 
   abbrev Fit : State → Type 0
   Fit = Ready L N some o O
@@ -136,15 +139,15 @@ module _ {w : Wiring} (L : Lawful w) (N : Subnetwork) (some : 0 < N .size) (o : 
     kept zero =
         record {
           passed =
-            record {
-              ready = R;
-              values-same = refl;
-              trails-same = refl;
-              marks-length = refl;
-              bits-length = refl;
-              marks-off = λ q _. refl;
-              bits-off = λ q _. refl;
-            };
+              record {
+                ready = R;
+                values-same = refl;
+                trails-same = refl;
+                marks-length = refl;
+                bits-length = refl;
+                marks-off = λ q _. refl;
+                bits-off = λ q _. refl;
+              };
           enters = inl (none-marked (x .marks) k blank);
           digits = λ i l e. absurd (omega (arith, e, U i (omega arith)));
         }
@@ -173,7 +176,7 @@ module _ {w : Wiring} (L : Lawful w) (N : Subnetwork) (some : 0 < N .size) (o : 
     done : Done k (mate w k o) (stage L N some o O (step1 w N (roundsOf w N k x)))
     unfolding roundsOf
     done =
-        all-rounds k (omega arith) (mate w k o) (matching L k (N .size) (omega arith) o O)
+        all-rounds k (omega arith) (mate w k o) pairs
         (λ n. stage L N some o O (step1 w N (roundsOf w N n x)))
         begun
         (λ n _ _. next n)
@@ -214,20 +217,16 @@ module _ {w : Wiring} (L : Lawful w) (N : Subnetwork) (some : 0 < N .size) (o : 
         go (yes h) = rw (all-marked i l, lt-ltb (suc i) k h, input-at i h)
         go (no h) = done .last-straight i (omega arith) ∙ sym (ap (λ b. eqb b 1) (List·getD-eq-default input 0 {n = i} (omega (arith, input-count))))
 
+    settled-bit : ℕ → Bool
+    settled-bit = stage L N some o O (step1 w N after) .bit
+
     proper : Proper k (mate w k o) (bitAt input)
-    unfolding Proper
-    proper p l =
-        ap (λ b. turn b (mate w k o p .1)) (sym (same-bit (mate w k o p .0) (mate-below L k (N .size) (omega arith) o O p l)))
-        ∙ done .opposite p l
-        ∙ ap (λ b. not (turn b (p .1))) (same-bit (p .0) l)
+    unfolding settled-bit
+    proper = proper-same k (mate w k o) settled-bit (bitAt input) same-bit pairs (done-proper k (mate w k o) _ done)
 
     ruled : Ruled k (mate w k o) (bitAt input)
-    ruled =
-        let D = done-ruled k (mate w k o) _ done in
-        record {
-          last-straight = λ i e. sym (same-bit i (omega arith)) ∙ D .last-straight i e;
-          lowest-straight = λ i l a b. sym (same-bit i l) ∙ D .lowest-straight i l a b;
-        }
+    unfolding settled-bit
+    ruled = ruled-same k (mate w k o) settled-bit (bitAt input) same-bit (done-ruled k (mate w k o) _ done)
 
     pub input-apart : Apart w k o input
     input-apart = proper-apart L k (N .size) (omega arith) o O input proper

@@ -69,4 +69,4 @@ module _ {w : Wiring} (L : Lawful w) (m : ℕ) (place : ℕ → ℕ) (U : Unlike
             apart p lp e =
                 ap (λ (q : Side). q .0)
                 (enc-inj w L (up m) (i, t) p (half-below m t i l) (omega arith)
-                  (U _ _ (real w L m t i l) (real w L m (p .1) (p .0) (below (p .1) (p .0) lp)) e))
+                (U _ _ (real w L m t i l) (real w L m (p .1) (p .0) (below (p .1) (p .0) lp)) e))

@@ -1,21 +1,21 @@
--- The setter's theorem: the steps in their sequence set the bits of an order canonically; so does running the entries.
+-- The setter's theorem, over every lawful wiring: the steps in their sequence set the bits of an order canonically, and so
+-- does running the entries of the log.
 -- Assumes nothing.
 use mathlib.Core.Path.{_≡_, refl, sym, ap, _∙_, subst}
-use mathlib.Core.Logic.{_⊎_, inl, inr}
 use mathlib.Core.Bool.{Bool, true, false}
 use mathlib.Core.List.{List, [], _∷_, _++_}
 use Prim.Native.Nat.{ℕ, zero, suc, _+_, _-_, _≤_, _<_}
 use native.Mathlib.Omega.{arith}
-use lib.ListN.{length, getD, take, drop, replicate, length-replicate}
+use lib.ListN.{length, getD, replicate, length-replicate}
 use lib.Seq.{take-all}
 use Rattle.counts.specs.Counts.{up, W}
 use Rattle.counts.proofs.Rule.{W-none}
-use Rattle.network.specs.Wiring.{Wiring, Lawful, Side, paper}
+use Rattle.network.specs.Wiring.{Wiring, Lawful}
 use Rattle.network.specs.Network.{Network, wires, split, network, switchCount, down}
 use Rattle.network.proofs.Shape.{Sized, none, some, sized, count-of}
-use Rattle.network.proofs.Paper.{paper-lawful}
 use Rattle.permutation.specs.Permutations.{IsPermutation}
 use Rattle.canonical.specs.Rule.{Canonical}
+use Rattle.canonical.proofs.Only.{canonical-unique}
 use Rattle.steps.specs.State.{State, Subnetwork, start}
 use Rattle.steps.specs.Steps.{step5, step6}
 use Rattle.steps.specs.Sequence.{setEntries}
@@ -37,16 +37,16 @@ unfolding Canonical
 nothing w m place bit o x h O H =
     record {
       framed =
-        record {
-          values-length = refl;
-          trails-length = refl;
-          marks-length = refl;
-          bits-length = refl;
-          values-off = λ z _. refl;
-          trails-off = λ z _. refl;
-          bits-off = λ q _. refl;
-          unmarked = H .unmarked;
-        };
+          record {
+            values-length = refl;
+            trails-length = refl;
+            marks-length = refl;
+            bits-length = refl;
+            values-off = λ z _. refl;
+            trails-off = λ z _. refl;
+            bits-off = λ q _. refl;
+            unmarked = H .unmarked;
+          };
       sorted = λ i l. H .order i l ∙ home i l;
       carried = λ i l. ap (λ q. getD (x .trails) (place q) 0) (home i l);
       canonical = ap (λ n. part bit n (x .bits)) (W-none m h);
@@ -64,65 +64,71 @@ module _ {w : Wiring} (L : Lawful w) where
       let N : Subnetwork = at place m bit in
       let z : State = step5 w N (inputSteps w N x) in
       let above = net-sets (halfOf w N false .place) (halfOf w N false .bit) t (half-unlike w L m place U false)
-          (orderIn L N U two o O x H false) (half-order L N U two o O x H false) z (top-holding L N U two o O x H) in
+      (orderIn L N U two o O x H false) (half-order L N U two o O x H false) z (top-holding L N U two o O x H) in
       let from-top : State = setNet w top (halfOf w N false .place) (halfOf w N false .bit) z in
       let below = net-sets (halfOf w N true .place) (halfOf w N true .bit) b (half-unlike w L m place U true)
-          (orderIn L N U two o O x H true) (half-order L N U two o O x H true) from-top (bottom-holding L N U two o O x H top from-top above) in
+      (orderIn L N U two o O x H true) (half-order L N U two o O x H true) from-top (bottom-holding L N U two o O x H top from-top above) in
       rw (count-of t)
       (level L N U two o O x H top from-top above bottom (setNet w bottom (halfOf w N true .place) (halfOf w N true .bit) from-top) below)
 
-  -- a table that holds the order, whose trails and marks are empty, and whose bits and numbers f, c, g, s are any
-  pub record Begins (n : ℕ) (o : List ℕ) (x : State) : Type 0 where
-    pub values-are : x .values ≡ o
-    pub trails-count : length (x .trails) ≡ n
-    pub marks-count : length (x .marks) ≡ up n
-    pub bits-count : length (x .bits) ≡ W n
-    pub unmarked : (i : ℕ) → getD (x .marks) i 0 ≡ 0
+-- a table that holds the order, with no pair marked and with room; the bits and trails, and f, c, g, s, are any
+pub record Begins (n : ℕ) (o : List ℕ) (x : State) : Type 0 where
+  pub values-room : n ≤ length (x .values)
+  pub trails-room : n ≤ length (x .trails)
+  pub marks-room : up n ≤ length (x .marks)
+  pub bits-count : length (x .bits) ≡ W n
+  pub values-are : (i : ℕ) → i < n → getD (x .values) i 0 ≡ getD o i 0
+  pub unmarked : (i : ℕ) → getD (x .marks) i 0 ≡ 0
 
-  module _ (n : ℕ) (o : List ℕ) (O : IsPermutation n o) (x : State) (B : Begins n o x) where
-    begins : Holding (at (λ i. i) n 0) o x
-    begins =
-        record {
-          values-room = λ i l. rw (B .values-are) (omega (arith, O .whole));
-          trails-room = λ i l. omega (arith, B .trails-count);
-          marks-room = omega (arith, B .marks-count);
-          bits-room = omega (arith, B .bits-count);
-          unmarked = B .unmarked;
-          order = λ i l. ap (λ (xs : List ℕ). getD xs i 0) (B .values-are);
-        }
+blank : (n i : ℕ) → _≡_ {A = ℕ} (getD (replicate n 0) i 0) 0
+blank zero i = refl
+blank (suc n) zero = refl
+blank (suc n) (suc i) = blank n i
 
+-- so the table starts
+pub start-begins : (n : ℕ) (o : List ℕ) → IsPermutation n o → Begins n o (start o)
+start-begins n o O =
+    record {
+      values-room = omega (arith, O .whole);
+      trails-room = omega (arith, length-replicate {A = ℕ} (length o) 0, O .whole);
+      marks-room = omega (arith, length-replicate {A = ℕ} (up (length o)) 0, O .whole);
+      bits-count = length-replicate (W (length o)) 0 ∙ ap W (O .whole);
+      values-are = λ i _. refl;
+      unmarked = blank (up (length o));
+    }
+
+module _ {w : Wiring} (L : Lawful w) (n : ℕ) (o : List ℕ) (O : IsPermutation n o) where
+  module _ (x : State) (B : Begins n o x) where
     pub whole-sets : Sets w (network n) (at (λ i. i) n 0) o x (setNet w (network n) (λ i. i) 0 x)
     unfolding Unlike
-    whole-sets = net-sets (λ i. i) 0 (sized n) (λ i j _ _ e. e) o O x begins
+    whole-sets =
+        net-sets L (λ i. i) 0 (sized n) (λ i j _ _ e. e) o O x
+        (record {
+          values-room = λ i l. omega (arith, B .values-room);
+          trails-room = λ i l. omega (arith, B .trails-room);
+          marks-room = B .marks-room;
+          bits-room = omega (arith, B .bits-count);
+          unmarked = B .unmarked;
+          order = B .values-are;
+        })
 
-    -- the setter's theorem
+    -- THE SETTER'S THEOREM: the steps in their sequence leave the canonical setting
     pub fold-canonical : Canonical w (network n) o (setNet w (network n) (λ i. i) 0 x .bits)
     fold-canonical =
         subst (Canonical w (network n) o)
         (take-all (W n) (setNet w (network n) (λ i. i) 0 x .bits) (omega (arith, whole-sets .framed .bits-length, B .bits-count)))
         (whole-sets .canonical)
 
-    pub run-canonical : Canonical w (network n) o (runSet w n (setEntries w n) x .bits)
-    run-canonical = rw (run-is-fold w L n x) fold-canonical
-
-  blank : (n i : ℕ) → _≡_ {A = ℕ} (getD (replicate n 0) i 0) 0
-  blank zero i = refl
-  blank (suc n) zero = refl
-  blank (suc n) (suc i) = blank n i
-
-  -- the table as it starts
-  pub start-begins : (n : ℕ) (o : List ℕ) → IsPermutation n o → Begins n o (start o)
-  start-begins n o O =
-      record {
-        values-are = refl;
-        trails-count = length-replicate (length o) 0 ∙ O .whole;
-        marks-count = length-replicate (up (length o)) 0 ∙ ap up (O .whole);
-        bits-count = length-replicate (W (length o)) 0 ∙ ap W (O .whole);
-        unmarked = blank (up (length o));
-      }
-
   -- the setting that the log of an order leaves is the canonical one
-  pub setting-canonical : (n : ℕ) (o : List ℕ) → IsPermutation n o → Canonical w (network n) o (settingOf w o (setEntries w n))
-  setting-canonical n o O =
+  pub setting-canonical : Canonical w (network n) o (settingOf w o (setEntries w n))
+  setting-canonical =
       subst (λ j. Canonical w (network n) o (runSet w j (setEntries w n) (start o) .bits)) (sym (O .whole))
-      (run-canonical n o O (start o) (start-begins n o O))
+      (rw (run-is-fold w L n (start o)) (fold-canonical (start o) (start-begins n o O)))
+
+  -- there is no other
+  pub setting-only : (bits : List ℕ) → Canonical w (network n) o bits → bits ≡ settingOf w o (setEntries w n)
+  setting-only bits C = canonical-unique L n o O bits (settingOf w o (setEntries w n)) C setting-canonical
+
+  -- so the steps leave it in any table that holds the order: nothing else that stands there matters
+  pub fold-setting : (x : State) → Begins n o x → setNet w (network n) (λ i. i) 0 x .bits ≡ settingOf w o (setEntries w n)
+  fold-setting x B = setting-only (setNet w (network n) (λ i. i) 0 x .bits) (fold-canonical x B)
