@@ -28,7 +28,7 @@ use Rattle.steps.proofs.Sweeps.{length-each, each-at, each-off, length-act}
 use Rattle.setting.proofs.Round.{Ready}
 use Rattle.setting.proofs.Rounds.{Passed, inputOf, rounds-keep, input-count, input-bits, input-apart, input-lowest}
 use Rattle.setting.proofs.Turns.{turned-real, turned-off, turned-at}
-use Rattle.setting.proofs.Table.{Holding, Off, Outside, Framed}
+use Rattle.setting.proofs.Table.{Holding, Off, Framed, framed-same}
 
 -- what the rule asks of input bits alone
 pub record Parted (w : Wiring) (m : ℕ) (o input : List ℕ) : Type 0 where
@@ -72,6 +72,10 @@ module _ {w : Wiring} (L : Lawful w) (N : Subnetwork) (U : Unlike (N .size) (N .
     pub trail-at : (i : ℕ) (t : Bool) → i < sizeOf (N .size) t
         → getD (y .trails) (at (i, t)) 0 ≡ getD (x .trails) (at (feeder (inputOf N (y .bits)) t i)) 0
 
+  -- the trail that stood at a place, with the side of its value
+  abbrev pub gained : Side → ℕ
+  gained p = getD (x .trails) (N .place (w .enc (up (N .size)) p)) 0 * 2 + digit (held w (up (N .size)) o p .1)
+
   some : 0 < N .size
   some = omega arith
 
@@ -80,19 +84,6 @@ module _ {w : Wiring} (L : Lawful w) (N : Subnetwork) (U : Unlike (N .size) (N .
 
   ready : Ready L N some o O x
   ready = record { holds = H .order; marks-room = H .marks-room; bits-room = bits-fit }
-
-  same-frame : Framed N (N .bit) (k - 1) x x
-  same-frame =
-      record {
-        values-length = refl;
-        trails-length = refl;
-        marks-length = refl;
-        bits-length = refl;
-        values-off = λ z _. refl;
-        trails-off = λ z _. refl;
-        bits-off = λ q _. refl;
-        unmarked = H .unmarked;
-      }
 
   -- two places: as it is
   no-input : N .size ≡ 2 → inputOf N (x .bits) ≡ []
@@ -103,7 +94,7 @@ module _ {w : Wiring} (L : Lawful w) (N : Subnetwork) (U : Unlike (N .size) (N .
   small e =
       record {
         parted = rw (no-input e, e) (two-parted w o);
-        framed = same-frame;
+        framed = framed-same N (N .bit) (k - 1) x (H .unmarked);
         sides = λ i t l. rw (no-input e) l;
         value-at = λ i t l. rw (no-input e);
         trail-at = λ i t l. rw (no-input e);
@@ -115,11 +106,49 @@ module _ {w : Wiring} (L : Lawful w) (N : Subnetwork) (U : Unlike (N .size) (N .
   P : Passed L N some o O x after
   P = rounds-keep L N some o O x ready (λ j _. H .unmarked j)
 
+  few : k - 1 ≤ down m
+  few = omega arith
+
   after-room : N .bit + (k - 1) ≤ length (after .bits)
   after-room = P .ready .bits-room
 
+  -- step 4 on the values or the trails, which the rounds left as they were
+  module _ (xs ys : List ℕ) (same : xs ≡ ys) where
+    abbrev acted : List ℕ
+    acted = act at (after .bits) (N .bit) (k - 1) xs
+
+    acted-length : length acted ≡ length ys
+    acted-length = length-act at (after .bits) (N .bit) xs (k - 1) ∙ ap length same
+
+    acted-off : (z : ℕ) → Off N z → getD acted z 0 ≡ getD ys z 0
+    acted-off z d =
+        turned-off L m (N .place) U (after .bits) (N .bit) (k - 1) few after-room xs z d ∙ ap (λ (l : List ℕ). getD l z 0) same
+
+    acted-at : ((i : ℕ) → i < m → N .place i < length ys) → (i : ℕ) (t : Bool) → i < sizeOf m t
+        → getD acted (at (i, t)) 0 ≡ getD ys (at (feeder (inputOf N (after .bits)) t i)) 0
+    acted-at space i t l =
+        turned-at L m (N .place) U (after .bits) (N .bit) (k - 1) few after-room xs (λ q lq. rw same (space q lq)) i t l
+        ∙ ap (λ (zs : List ℕ). getD zs (at (feeder (inputOf N (after .bits)) t i)) 0) same
+
+  abbrev cleared : List ℕ
+  cleared = each (λ i. i) k (λ i mark. 0) (after .marks)
+
+  clear : (i : ℕ) → getD cleared i 0 ≡ 0
+  unfolding Unlike
+  clear i = go (decLt i k)
+    where
+      room : (j : ℕ) → j < k → j < length (after .marks)
+      room j l = omega (arith, P .ready .marks-room)
+
+      go : Dec (i < k) → getD cleared i 0 ≡ 0
+      go (yes l) = each-at (λ i. i) (λ i mark. 0) (after .marks) k (λ i j _ _ e. e) room i l
+      go (no l) =
+          each-off (λ i. i) (λ i mark. 0) (after .marks) k i (λ j lj e. omega arith)
+          ∙ P .marks-off i (omega arith)
+          ∙ H .unmarked i
+
   large : Turned (step4 w N after)
-  unfolding step4 Unlike
+  unfolding step4
   large =
       record {
         parted =
@@ -131,30 +160,19 @@ module _ {w : Wiring} (L : Lawful w) (N : Subnetwork) (U : Unlike (N .size) (N .
             };
         framed =
             record {
-              values-length = length-act at (after .bits) (N .bit) (after .values) (k - 1) ∙ ap length (P .values-same);
-              trails-length = length-act at (after .bits) (N .bit) (after .trails) (k - 1) ∙ ap length (P .trails-same);
+              values-length = acted-length (after .values) (x .values) (P .values-same);
+              trails-length = acted-length (after .trails) (x .trails) (P .trails-same);
               marks-length = length-each (λ i. i) (λ i mark. 0) (after .marks) k ∙ P .marks-length;
               bits-length = P .bits-length;
-              values-off = λ z d. turned-off L m (N .place) U (after .bits) (N .bit) (k - 1) (omega arith) after-room (after .values) z d
-                  ∙ ap (λ (l : List ℕ). getD l z 0) (P .values-same);
-              trails-off = λ z d. turned-off L m (N .place) U (after .bits) (N .bit) (k - 1) (omega arith) after-room (after .trails) z d
-                  ∙ ap (λ (l : List ℕ). getD l z 0) (P .trails-same);
+              values-off = acted-off (after .values) (x .values) (P .values-same);
+              trails-off = acted-off (after .trails) (x .trails) (P .trails-same);
               bits-off = P .bits-off;
               unmarked = clear;
             };
-        sides = turned-real L m (N .place) U (after .bits) (N .bit) (k - 1) (omega arith) after-room;
-        value-at = λ i t l. turned-at L m (N .place) U (after .bits) (N .bit) (k - 1) (omega arith) after-room (after .values) (λ q lq. rw (P .values-same) (H .values-room q lq)) i t l
-            ∙ ap (λ (xs : List ℕ). getD xs (at (feeder (inputOf N (after .bits)) t i)) 0) (P .values-same);
-        trail-at = λ i t l. turned-at L m (N .place) U (after .bits) (N .bit) (k - 1) (omega arith) after-room (after .trails) (λ q lq. rw (P .trails-same) (H .trails-room q lq)) i t l
-            ∙ ap (λ (xs : List ℕ). getD xs (at (feeder (inputOf N (after .bits)) t i)) 0) (P .trails-same);
+        sides = turned-real L m (N .place) U (after .bits) (N .bit) (k - 1) few after-room;
+        value-at = acted-at (after .values) (x .values) (P .values-same) (H .values-room);
+        trail-at = acted-at (after .trails) (x .trails) (P .trails-same) (H .trails-room);
       }
-    where
-      clear : (i : ℕ) → getD (each (λ i. i) k (λ i mark. 0) (after .marks)) i 0 ≡ 0
-      clear i = go (decLt i k)
-        where
-          go : Dec (i < k) → getD (each (λ i. i) k (λ i mark. 0) (after .marks)) i 0 ≡ 0
-          go (yes l) = each-at (λ i. i) (λ i mark. 0) (after .marks) k (λ i j _ _ e. e) (λ j lj. omega (arith, P .ready .marks-room)) i l
-          go (no l) = each-off (λ i. i) (λ i mark. 0) (after .marks) k i (λ j lj e. omega arith) ∙ P .marks-off i (omega arith) ∙ H .unmarked i
 
   turned : Turned (inputSteps w N x)
   unfolding inputSteps
@@ -181,8 +199,9 @@ module _ {w : Wiring} (L : Lawful w) (N : Subnetwork) (U : Unlike (N .size) (N .
   standing : (i : ℕ) (t : Bool) → i < sizeOf m t → w .dec k (getD (y .values) (at (i, t)) 0) ≡ held w k o (feeder input t i)
   unfolding held
   standing i t l =
-      let q : w .enc k (feeder input t i) < m = real w L m (half input (i, t)) i (T .sides i t l) in
-      ap (w .dec k) (T .value-at i t l ∙ H .order (w .enc k (feeder input t i)) q ∙ sym (entry-in m o O (w .enc k (feeder input t i)) q))
+      let q : ℕ = w .enc k (feeder input t i) in
+      let q< : q < m = real w L m (half input (i, t)) i (T .sides i t l) in
+      ap (w .dec k) (T .value-at i t l ∙ H .order q q< ∙ sym (entry-in m o O q q<))
 
   values-fit : (i : ℕ) → i < m → N .place i < length (y .values)
   values-fit i l = rw (T .framed .values-length) (H .values-room i l)
@@ -196,8 +215,7 @@ module _ {w : Wiring} (L : Lawful w) (N : Subnetwork) (U : Unlike (N .size) (N .
     pub value-at : (i : ℕ) (t : Bool) → i < sizeOf (N .size) t
         → getD (z .values) (at (i, t)) 0 ≡ held w (up (N .size)) o (feeder (inputOf N (z .bits)) t i) .0
     pub trail-at : (i : ℕ) (t : Bool) → i < sizeOf (N .size) t
-        → getD (z .trails) (at (i, t)) 0
-        ≡ getD (x .trails) (at (feeder (inputOf N (z .bits)) t i)) 0 * 2 + digit (held w (up (N .size)) o (feeder (inputOf N (z .bits)) t i) .1)
+        → getD (z .trails) (at (i, t)) 0 ≡ gained (feeder (inputOf N (z .bits)) t i)
 
   pub entered : Entered (step5 w N (inputSteps w N x))
   unfolding step5

@@ -18,7 +18,8 @@ use Rattle.canonical.specs.Rule.{held, half, Apart, Finished}
 use Rattle.canonical.proofs.Sides.{other}
 use Rattle.canonical.proofs.Rings.{Proper}
 use Rattle.canonical.proofs.Halves.{fits, proper, out-law}
-use Rattle.canonical.proofs.Held.{entry-in, entry-past, held-at, held-below, mate, mate-below, mate-holds, seat, seat-below, seat-holds}
+use Rattle.canonical.proofs.Held.{entry-in, entry-past, held-at, held-below, mate, mate-below, mate-holds}
+use Rattle.canonical.proofs.Held.{seat, seat-below, seat-holds}
 use Rattle.steps.specs.Sweeps.{act, each}
 use Rattle.steps.specs.State.{State, Subnetwork, outputBit}
 use Rattle.steps.specs.Steps.{digit, step6}
@@ -38,7 +39,8 @@ other-digits t true = omega arith
 other-digits t false = omega arith
 
 module _ {w : Wiring} (L : Lawful w) (N : Subnetwork) (U : Unlike (N .size) (N .place)) (some : 0 < N .size) (o : List ℕ)
-    (O : IsPermutation (N .size) o) (input : List ℕ) (count : length input ≡ up (N .size) - 1) (A : Apart w (up (N .size)) o input) where
+    (O : IsPermutation (N .size) o) (input : List ℕ) (count : length input ≡ up (N .size) - 1)
+    (A : Apart w (up (N .size)) o input) where
   abbrev m : ℕ
   m = N .size
 
@@ -59,7 +61,8 @@ module _ {w : Wiring} (L : Lawful w) (N : Subnetwork) (U : Unlike (N .size) (N .
     pub unmarked : (i : ℕ) → getD (x .marks) i 0 ≡ 0
     pub value-at : (j : ℕ) (s : Bool) → j < sizeOf (N .size) s → getD (x .values) (at (j, s)) 0 ≡ j
     pub trail-at : (p : Side) → p .0 < up (N .size) → w .enc (up (N .size)) p < N .size
-        → getD (x .trails) (at (held w (up (N .size)) o p .0, half input p)) 0 ≡ t (w .enc (up (N .size)) p) * 2 + digit (held w (up (N .size)) o p .1)
+        → getD (x .trails) (at (held w (up (N .size)) o p .0, half input p)) 0
+          ≡ t (w .enc (up (N .size)) p) * 2 + digit (held w (up (N .size)) o p .1)
 
   module _ (t : ℕ → ℕ) (x : State) (H : Halved t x) where
     abbrev bits′ : List ℕ
@@ -100,7 +103,8 @@ module _ {w : Wiring} (L : Lawful w) (N : Subnetwork) (U : Unlike (N .size) (N .
             both true b = b
 
     -- an item of the top whose value is of pair j leaves its side as output bit j
-    from-top : (p : Side) → p .0 < k → held w k o p .0 < h → half input p ≡ false → getD output (held w k o p .0) 0 ≡ digit (held w k o p .1)
+    from-top : (p : Side) → p .0 < k → held w k o p .0 < h → half input p ≡ false
+        → getD output (held w k o p .0) 0 ≡ digit (held w k o p .1)
     from-top p l d e =
         output-at (held w k o p .0) d
         ∙ ap (λ s. getD (x .trails) (at (held w k o p .0, s)) 0 % 2) (sym e)
@@ -132,7 +136,8 @@ module _ {w : Wiring} (L : Lawful w) (N : Subnetwork) (U : Unlike (N .size) (N .
         go true s =
             rw s
             (ap (λ i. getD output i 0) (sym j-q)
-            ∙ from-top q (mate-below L k m (fits L m some o O) o O p l) (rw j-q lj) (proper L m some o O input count A p l ∙ ap not s)
+            ∙ from-top q (mate-below L k m (fits L m some o O) o O p l) (rw j-q lj)
+              (proper L m some o O input count A p l ∙ ap not s)
             ∙ ap (λ (v : Side). digit (v .1)) q-holds)
 
     -- the switches act: each item comes to the side of its value
@@ -253,8 +258,8 @@ module _ {w : Wiring} (L : Lawful w) (N : Subnetwork) (U : Unlike (N .size) (N .
                 trails-length = length-each (N .place) _ trails′ m ∙ length-act at bits′ (outputBit N) (x .trails) h;
                 marks-length = refl;
                 bits-length = bits-length;
-                values-off = λ q d. each-off (N .place) _ values′ m q d ∙ turned-off L m (N .place) U bits′ (outputBit N) h few room (x .values) q d;
-                trails-off = λ q d. each-off (N .place) _ trails′ m q d ∙ turned-off L m (N .place) U bits′ (outputBit N) h few room (x .trails) q d;
+                values-off = λ q d. each-off (N .place) _ values′ m q d ∙ off (x .values) q d;
+                trails-off = λ q d. each-off (N .place) _ trails′ m q d ∙ off (x .trails) q d;
                 bits-off = λ q d. each-off (λ i. outputBit N + i) _ (x .bits) h q (apart q d);
                 unmarked = H .unmarked;
               };
@@ -263,6 +268,9 @@ module _ {w : Wiring} (L : Lawful w) (N : Subnetwork) (U : Unlike (N .size) (N .
           carried = carried-after;
         }
       where
+        off : (xs : List ℕ) (q : ℕ) → Off N q → getD (act at bits′ (outputBit N) h xs) q 0 ≡ getD xs q 0
+        off = turned-off L m (N .place) U bits′ (outputBit N) h few room
+
         apart : (q : ℕ) → Outside (outputBit N) h q → (i : ℕ) → i < h → q ≢ outputBit N + i
         apart q (inl d) i l = omega arith
         apart q (inr d) i l = omega arith

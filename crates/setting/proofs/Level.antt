@@ -109,7 +109,8 @@ module _ {w : Wiring} (L : Lawful w) (N : Subnetwork) (U : Unlike (N .size) (N .
 
   -- the top's steps were done
   module _ (top : Network) (a : State) (A : Sets w top (halfOf w N false) (orderIn false) z a) where
-    widen : (t : Bool) (net : Network) (v y : State) (order : List ℕ) → Sets w net (halfOf w N t) order v y → Framed N (N .bit) (W m) v y
+    widen : (t : Bool) (net : Network) (v y : State) (order : List ℕ) → Sets w net (halfOf w N t) order v y
+        → Framed N (N .bit) (W m) v y
     widen t net v y order S =
         framed-wider N (N .bit) (W m) (half-off t)
         (λ q d. outside-wider (halfBit N t) (W (sizeOf m t)) (N .bit) (W m) q (half-fits t .0) (half-fits t .1) d)
@@ -125,7 +126,9 @@ module _ {w : Wiring} (L : Lawful w) (N : Subnetwork) (U : Unlike (N .size) (N .
     to-a = framed-then to-z (widen false top z a (orderIn false) A)
 
     pub bottom-holding : Holding (halfOf w N true) (orderIn true) a
-    bottom-holding = holding true (N .bit) (W m) a to-a (λ i l. A .framed .values-off (at (i, true)) (half-apart true false true≢false i l))
+    bottom-holding =
+        holding true (N .bit) (W m) a to-a
+        (λ i l. A .framed .values-off (at (i, true)) (half-apart true false true≢false i l))
 
     -- the bottom's steps were done
     module _ (bottom : Network) (b : State) (B : Sets w bottom (halfOf w N true) (orderIn true) a b) where
@@ -140,7 +143,8 @@ module _ {w : Wiring} (L : Lawful w) (N : Subnetwork) (U : Unlike (N .size) (N .
       through : (t : Bool) (i : ℕ) → i < sizeOf m t
           → getD (b .trails) (at (getD (orderIn t) i 0, t)) 0 ≡ getD (z .trails) (at (i, t)) 0
       through false i l =
-          B .framed .trails-off _ (half-apart false true false≢true (getD (orderIn false) i 0) (half-order false .below i l)) ∙ A .carried i l
+          B .framed .trails-off _ (half-apart false true false≢true (getD (orderIn false) i 0) (half-order false .below i l))
+          ∙ A .carried i l
       through true i l = B .carried i l ∙ A .framed .trails-off (at (i, true)) (half-apart true false true≢false i l)
 
       trail-in : (p : Side) → p .0 < k → w .enc k p < m
@@ -191,32 +195,51 @@ module _ {w : Wiring} (L : Lawful w) (N : Subnetwork) (U : Unlike (N .size) (N .
       to-y = framed-then to-b b-to-y
 
       -- the parts of the bits stay as their steps left them
+      stays : (c n : ℕ) (v : State) → Framed N (N .bit) (W m) x v → c + n ≤ N .bit + W m
+          → ((q : ℕ) → c ≤ q → q < c + n → getD (y .bits) q 0 ≡ getD (v .bits) q 0)
+          → part c n (y .bits) ≡ part c n (v .bits)
+      stays c n v F h same =
+          same-part c n (v .bits) (y .bits) (omega (arith, F .bits-length, H .bits-room)) (to-y .bits-length ∙ sym (F .bits-length)) same
+
       input-stays : part (N .bit) (k - 1) (y .bits) ≡ input
       input-stays =
-          same-part (N .bit) (k - 1) (z .bits) (y .bits) (omega (arith, to-z .bits-length, H .bits-room, count)) (to-y .bits-length ∙ sym (to-z .bits-length))
+          stays (N .bit) (k - 1) z to-z (omega (arith, count))
           (λ q l h.
-          leaves .framed .bits-off q (inl (omega (arith, out-is)))
-          ∙ B .framed .bits-off q (inl (omega arith))
-          ∙ A .framed .bits-off q (inl (omega arith)))
+            leaves .framed .bits-off q (inl (omega (arith, out-is)))
+            ∙ B .framed .bits-off q (inl (omega arith))
+            ∙ A .framed .bits-off q (inl (omega arith)))
 
       top-stays : part (halfBit N false) (W k) (y .bits) ≡ part (halfBit N false) (W k) (a .bits)
       top-stays =
-          same-part (halfBit N false) (W k) (a .bits) (y .bits) (omega (arith, to-a .bits-length, H .bits-room, count)) (to-y .bits-length ∙ sym (to-a .bits-length))
+          stays (halfBit N false) (W k) a to-a (half-fits false .1)
           (λ q l h. leaves .framed .bits-off q (inl (omega (arith, out-is))) ∙ B .framed .bits-off q (inl (omega arith)))
 
       bottom-stays : part (halfBit N true) (W (down m)) (y .bits) ≡ part (halfBit N true) (W (down m)) (b .bits)
       bottom-stays =
-          same-part (halfBit N true) (W (down m)) (b .bits) (y .bits) (omega (arith, to-b .bits-length, H .bits-room, count)) (to-y .bits-length ∙ sym (to-b .bits-length))
+          stays (halfBit N true) (W (down m)) b to-b (half-fits true .1)
           (λ q l h. leaves .framed .bits-off q (inl (omega (arith, out-is))))
 
-      in-sequence : part (N .bit) (W m) (y .bits)
-          ≡ input ++ (part (halfBit N false) (W k) (a .bits) ++ (part (halfBit N true) (W (down m)) (b .bits) ++ part (outputBit N) (down m) (y .bits)))
-      in-sequence =
+      abbrev inputBits : List ℕ
+      inputBits = part (N .bit) (k - 1) (y .bits)
+
+      abbrev topBits : List ℕ
+      topBits = part (halfBit N false) (W k) (y .bits)
+
+      abbrev bottomBits : List ℕ
+      bottomBits = part (halfBit N true) (W (down m)) (y .bits)
+
+      abbrev outputBits : List ℕ
+      outputBits = part (outputBit N) (down m) (y .bits)
+
+      in-parts : part (N .bit) (W m) (y .bits) ≡ inputBits ++ (topBits ++ (bottomBits ++ outputBits))
+      in-parts =
           ap (λ n. part (N .bit) n (y .bits)) count
           ∙ part-split (N .bit) (k - 1) (W k + (W (down m) + down m)) (y .bits)
-          ∙ ap (λ l. part (N .bit) (k - 1) (y .bits) ++ l) (part-split (halfBit N false) (W k) (W (down m) + down m) (y .bits))
-          ∙ ap (λ l. part (N .bit) (k - 1) (y .bits) ++ (part (halfBit N false) (W k) (y .bits) ++ l)) bottom-and-out
-          ∙ rw (input-stays, top-stays, bottom-stays)
+          ∙ ap (λ l. inputBits ++ l) (part-split (halfBit N false) (W k) (W (down m) + down m) (y .bits))
+          ∙ ap (λ l. inputBits ++ (topBits ++ l))
+            (ap (λ c. part c (W (down m) + down m) (y .bits)) after-top
+            ∙ part-split (halfBit N true) (W (down m)) (down m) (y .bits)
+            ∙ ap (λ c. bottomBits ++ part c (down m) (y .bits)) after-bottom)
         where
           after-top : halfBit N false + W k ≡ halfBit N true
           after-top = omega arith
@@ -224,11 +247,9 @@ module _ {w : Wiring} (L : Lawful w) (N : Subnetwork) (U : Unlike (N .size) (N .
           after-bottom : halfBit N true + W (down m) ≡ outputBit N
           after-bottom = omega (arith, out-is)
 
-          bottom-and-out : part (halfBit N false + W k) (W (down m) + down m) (y .bits) ≡ part (halfBit N true) (W (down m)) (y .bits) ++ part (outputBit N) (down m) (y .bits)
-          bottom-and-out =
-              ap (λ b. part b (W (down m) + down m) (y .bits)) after-top
-              ∙ part-split (halfBit N true) (W (down m)) (down m) (y .bits)
-              ∙ ap (λ b. part (halfBit N true) (W (down m)) (y .bits) ++ part b (down m) (y .bits)) after-bottom
+      output-count : length outputBits ≡ down m
+      output-count =
+          length-part (outputBit N) (down m) (y .bits) (omega (arith, to-y .bits-length, H .bits-room, count, out-is))
 
       pub level : Sets w (split (N .size) top bottom) N o x (step6 w N b)
       unfolding Canonical
@@ -240,20 +261,20 @@ module _ {w : Wiring} (L : Lawful w) (N : Subnetwork) (U : Unlike (N .size) (N .
             canonical =
                 record {
                   input = input;
-                  top = part (halfBit N false) (W k) (a .bits);
-                  bottom = part (halfBit N true) (W (down m)) (b .bits);
-                  output = part (outputBit N) (down m) (y .bits);
-                  in-sequence = in-sequence;
-                  settled =
-                      record {
-                        input-count = E .parted .count;
-                        output-count = length-part (outputBit N) (down m) (y .bits) (omega (arith, to-y .bits-length, H .bits-room, count, out-is));
-                        input-bits = E .parted .bits;
-                        apart = E .parted .apart;
-                        lowest-straight = E .parted .lowest;
-                        finished = leaves .finishes;
-                      };
-                  in-top = A .canonical;
+                top = part (halfBit N false) (W k) (a .bits);
+                bottom = part (halfBit N true) (W (down m)) (b .bits);
+                output = outputBits;
+                in-sequence = in-parts ∙ rw (input-stays, top-stays, bottom-stays);
+                settled =
+                    record {
+                      input-count = E .parted .count;
+                      output-count = output-count;
+                      input-bits = E .parted .bits;
+                      apart = E .parted .apart;
+                      lowest-straight = E .parted .lowest;
+                      finished = leaves .finishes;
+                    };
+                in-top = A .canonical;
                   in-bottom = B .canonical;
                 };
           }

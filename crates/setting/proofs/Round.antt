@@ -27,7 +27,8 @@ use Rattle.steps.proofs.Sweeps.{length-store, store-at, store-off, look-in, loo
 
 -- ---- the first bad index
 
-first-is : (good : ℕ → Bool) (n i j : ℕ) → i ≤ j → j < i + n → good j ≡ false → ((q : ℕ) → q < j → good q ≡ true) → firstBadFrom good n i ≡ j
+first-is : (good : ℕ → Bool) (n i j : ℕ) → i ≤ j → j < i + n → good j ≡ false → ((q : ℕ) → q < j → good q ≡ true)
+    → firstBadFrom good n i ≡ j
 unfolding firstBadFrom
 first-is good zero i j a b e h = absurd (omega arith)
 first-is good (suc n) i j a b e h = go (λ x y. first-is good n (suc i) j x y e h) (ℕ-discrete i j)
@@ -66,7 +67,8 @@ module _ {w : Wiring} (L : Lawful w) (N : Subnetwork) (some : 0 < N .size) (o : 
   stage x =
       record {
         mark = marked (x .marks);
-        bit = λ i. cond (marked (x .marks) i) (cond (ltb (suc i) (up (N .size))) (eqb (getD (x .bits) (N .bit + i) 0) 1) false) false;
+        bit = λ i.
+            cond (marked (x .marks) i) (cond (ltb (suc i) (up (N .size))) (eqb (getD (x .bits) (N .bit + i) 0) 1) false) false;
         f = w .dec (up (N .size)) (x .f);
         c = w .dec (up (N .size)) (x .c);
       }
@@ -104,8 +106,13 @@ module _ {w : Wiring} (L : Lawful w) (N : Subnetwork) (some : 0 < N .size) (o : 
     g-is = Z .value ∙ go (decLt (x .f) (N .size))
       where
         go : Dec (x .f < N .size) → look (N .place) (N .size) (x .values) (x .f) ≡ getD o (x .f) (x .f)
-        go (yes l) = look-in (N .place) (x .values) (N .size) (x .f) l ∙ R .holds (x .f) l ∙ sym (entry-in (N .size) o O (x .f) l)
-        go (no l) = look-out (N .place) (x .values) (N .size) (x .f) (omega arith) ∙ sym (entry-past (N .size) o O (x .f) (omega arith))
+        go (yes l) =
+            look-in (N .place) (x .values) (N .size) (x .f) l
+            ∙ R .holds (x .f) l
+            ∙ sym (entry-in (N .size) o O (x .f) l)
+        go (no l) =
+            look-out (N .place) (x .values) (N .size) (x .f) (omega arith)
+            ∙ sym (entry-past (N .size) o O (x .f) (omega arith))
 
     associate : other w k (x .g) ≡ w .enc k (held w k o s)
     unfolding held
@@ -116,7 +123,9 @@ module _ {w : Wiring} (L : Lawful w) (N : Subnetwork) (some : 0 < N .size) (o : 
     -- step 2 finds the mate's place
     found : step2 w N x .s ≡ w .enc k s
     unfolding step2
-    found = rw (associate ∙ held-at L k (N .size) fits o O s s<) (seek-to (N .place) (x .values) a r (N .size) only there ∙ last (decLt r (N .size)))
+    found =
+        rw (associate ∙ held-at L k (N .size) fits o O s s<)
+        (seek-to (N .place) (x .values) a r (N .size) only there ∙ last (decLt r (N .size)))
       where
         r : ℕ
         r = w .enc k s
@@ -132,7 +141,8 @@ module _ {w : Wiring} (L : Lawful w) (N : Subnetwork) (some : 0 < N .size) (o : 
           where
             go : Dec (r < N .size) → q ≡ r
             go (yes h) = O .unlike q r l h (sym (R .holds q l) ∙ e ∙ entry-in (N .size) o O r h)
-            go (no h) = absurd (omega (arith, O .below q l, sym (R .holds q l) ∙ e ∙ entry-past (N .size) o O r (omega arith)))
+            go (no h) =
+                absurd (omega (arith, O .below q l, sym (R .holds q l) ∙ e ∙ entry-past (N .size) o O r (omega arith)))
 
         last : Dec (r < N .size) → cond (ltb r (N .size)) r a ≡ r
         last (yes h) = rw (lt-ltb r (N .size) h)
@@ -177,14 +187,21 @@ module _ {w : Wiring} (L : Lawful w) (N : Subnetwork) (some : 0 < N .size) (o : 
         rw bits-is
         (store-off (λ i. N .bit + i) (k - 1) (s .0) (digit (not (s .1))) (x .bits) q (λ l. d (omega arith)))
 
+    -- where the walk would go on, and whether it begins a new ring instead
     abbrev low : ℕ
     low = lowestUnmarked (z .marks) k
 
-    f-after : z .f ≡ cond (cond (eqb (w .enc k (s .0, not (s .1))) (x .c)) (ltb low k) false) (w .enc k (low, false)) (w .enc k (s .0, not (s .1)))
+    abbrev onward : ℕ
+    onward = w .enc k (s .0, not (s .1))
+
+    abbrev anew : Bool
+    anew = cond (eqb (w .enc k (s .0, not (s .1))) (x .c)) (ltb (lowestUnmarked (z .marks) k) k) false
+
+    f-after : z .f ≡ cond anew (w .enc k (low, false)) onward
     unfolding step2 step3
     f-after = rw other-s
 
-    c-after : z .c ≡ cond (cond (eqb (w .enc k (s .0, not (s .1))) (x .c)) (ltb low k) false) (w .enc k (low, false)) (x .c)
+    c-after : z .c ≡ cond anew (w .enc k (low, false)) (x .c)
     unfolding step2 step3
     c-after = rw other-s
 
@@ -208,11 +225,11 @@ module _ {w : Wiring} (L : Lawful w) (N : Subnetwork) (some : 0 < N .size) (o : 
           bit-last = λ j e. last-bit z j e ∙ sym (last-bit x j e);
           bit-old = λ j _ d. rw (old-mark j d, old-bit (N .bit + j) (λ _ q. d (omega arith)));
           go-on = λ d.
-              let e : eqb (w .enc k (s .0, not (s .1))) (x .c) ≡ false
+              let e : eqb onward (x .c) ≡ false
               = ne-eqb _ _ (λ q. d (sym (L .dec-enc k (s .0, not (s .1)) s<) ∙ ap (w .dec k) q)) in
               (ap (w .dec k) (f-after ∙ rw e) ∙ L .dec-enc k (s .0, not (s .1)) s<, ap (w .dec k) (c-after ∙ rw e));
           again = λ q j l.
-              let e : eqb (w .enc k (s .0, not (s .1))) (x .c) ≡ true = eq-eqb _ _ (ap (w .enc k) q ∙ c-is) in
+              let e : eqb onward (x .c) ≡ true = eq-eqb _ _ (ap (w .enc k) q ∙ c-is) in
               let u : low ≡ j = lowest-is (z .marks) k j l in (
                 ap (w .dec k) (f-after ∙ rw (e, u, lt-ltb j k (l .below))) ∙ L .dec-enc k (j, false) (l .below),
                 ap (w .dec k) (c-after ∙ rw (e, u, lt-ltb j k (l .below))) ∙ L .dec-enc k (j, false) (l .below),
@@ -225,11 +242,11 @@ module _ {w : Wiring} (L : Lawful w) (N : Subnetwork) (some : 0 < N .size) (o : 
 
     -- f and c stay places
     pub places-after : (z .f < k + k) × (z .c < k + k)
-    places-after = go (cond (eqb (w .enc k (s .0, not (s .1))) (x .c)) (ltb low k) false) refl
+    places-after = go anew refl
       where
-        go : (t : Bool) → cond (eqb (w .enc k (s .0, not (s .1))) (x .c)) (ltb low k) false ≡ t → (z .f < k + k) × (z .c < k + k)
+        go : (t : Bool) → anew ≡ t → (z .f < k + k) × (z .c < k + k)
         go true e =
-            let l = L .enc< k (low, false) (low-below (eqb (w .enc k (s .0, not (s .1))) (x .c)) e) in
+            let l = L .enc< k (low, false) (low-below (eqb onward (x .c)) e) in
             (rw (f-after, e) l, rw (c-after, e) l)
         go false e = (rw (f-after, e) (L .enc< k (s .0, not (s .1)) s<), rw (c-after, e) (Z .c-below))
 

@@ -26,7 +26,8 @@ use Rattle.steps.specs.Steps.{step1, step2, step3}
 use Rattle.steps.specs.Fold.{roundsOf}
 use Rattle.steps.proofs.Sweeps.{length-store, store-off}
 use Rattle.setting.proofs.Parts.{part, length-part, part-at}
-use Rattle.setting.proofs.Round.{stage, Ready, Loaded, none-marked, some-marked, round, ready-after, places-after, digits-after, old-bit}
+use Rattle.setting.proofs.Round.{stage, Ready, Loaded, none-marked, some-marked, round}
+use Rattle.setting.proofs.Round.{ready-after, places-after, digits-after, old-bit}
 
 -- the input bits of a network, of all bits
 abbrev pub inputOf : Subnetwork → List ℕ → List ℕ
@@ -169,15 +170,18 @@ module _ {w : Wiring} (L : Lawful w) (N : Subnetwork) (some : 0 < N .size) (o : 
           at-c = rw (none-marked (x .marks) k blank) (L .dec-enc k (k - 1, false) (omega arith));
         }
 
-    next : (n : ℕ) → Round k (mate w k o) (stage L N some o O (step1 w N (roundsOf w N n x))) (stage L N some o O (step1 w N (roundsOf w N (suc n) x)))
+    abbrev at : ℕ → Stage
+    at n = stage L N some o O (step1 w N (roundsOf w N n x))
+
+    next : (n : ℕ) → Round k (mate w k o) (at n) (at (suc n))
     unfolding roundsOf
     next n = round-more x (roundsOf w N n x) (kept n .passed) (kept n .enters)
 
-    done : Done k (mate w k o) (stage L N some o O (step1 w N (roundsOf w N k x)))
+    done : Done k (mate w k o) (at k)
     unfolding roundsOf
     done =
         all-rounds k (omega arith) (mate w k o) pairs
-        (λ n. stage L N some o O (step1 w N (roundsOf w N n x)))
+        at
         begun
         (λ n _ _. next n)
 
@@ -215,7 +219,9 @@ module _ {w : Wiring} (L : Lawful w) (N : Subnetwork) (some : 0 < N .size) (o : 
       where
         go : Dec (suc i < k) → stage L N some o O (step1 w N after) .bit i ≡ bitAt input i
         go (yes h) = rw (all-marked i l, lt-ltb (suc i) k h, input-at i h)
-        go (no h) = done .last-straight i (omega arith) ∙ sym (ap (λ b. eqb b 1) (List·getD-eq-default input 0 {n = i} (omega (arith, input-count))))
+        go (no h) =
+            done .last-straight i (omega arith)
+            ∙ sym (ap (λ b. eqb b 1) (List·getD-eq-default input 0 {n = i} (omega (arith, input-count))))
 
     settled-bit : ℕ → Bool
     settled-bit = stage L N some o O (step1 w N after) .bit

@@ -37,6 +37,19 @@ pub record Framed (N : Subnetwork) (b n : ℕ) (x y : State) : Type 0 where
   pub bits-off : (q : ℕ) → Outside b n q → getD (y .bits) q 0 ≡ getD (x .bits) q 0
   pub unmarked : (i : ℕ) → getD (y .marks) i 0 ≡ 0
 
+pub framed-same : (N : Subnetwork) (b n : ℕ) (x : State) → ((i : ℕ) → getD (x .marks) i 0 ≡ 0) → Framed N b n x x
+framed-same N b n x u =
+    record {
+      values-length = refl;
+      trails-length = refl;
+      marks-length = refl;
+      bits-length = refl;
+      values-off = λ z _. refl;
+      trails-off = λ z _. refl;
+      bits-off = λ q _. refl;
+      unmarked = u;
+    }
+
 pub framed-then : {N : Subnetwork} {b n : ℕ} {x y z : State} → Framed N b n x y → Framed N b n y z → Framed N b n x z
 framed-then F G =
     record {

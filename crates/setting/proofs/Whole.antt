@@ -24,52 +24,47 @@ use Rattle.steps.specs.Fold.{inputSteps, setNet}
 use Rattle.steps.proofs.Places.{Unlike, half-unlike}
 use Rattle.steps.proofs.Running.{run-is-fold}
 use Rattle.setting.proofs.Parts.{part}
-use Rattle.setting.proofs.Table.{Holding, Framed}
+use Rattle.setting.proofs.Table.{Holding, Framed, framed-same}
 use Rattle.setting.proofs.Level.{Sets, halfOf, orderIn, half-order, top-holding, bottom-holding, level}
 
 abbrev pub at : (ℕ → ℕ) → ℕ → ℕ → Subnetwork
 at place m bit = record { place = place; size = m; bit = bit }
 
 -- fewer than two places: there is nothing to do
-nothing : (w : Wiring) (m : ℕ) (place : ℕ → ℕ) (bit : ℕ) (o : List ℕ) (x : State) → m < 2 → IsPermutation m o → Holding (at place m bit) o x
-    → Sets w wires (at place m bit) o x x
+nothing : (w : Wiring) (N : Subnetwork) (o : List ℕ) (x : State) → N .size < 2 → IsPermutation (N .size) o → Holding N o x
+    → Sets w wires N o x x
 unfolding Canonical
-nothing w m place bit o x h O H =
+nothing w N o x h O H =
     record {
-      framed =
-          record {
-            values-length = refl;
-            trails-length = refl;
-            marks-length = refl;
-            bits-length = refl;
-            values-off = λ z _. refl;
-            trails-off = λ z _. refl;
-            bits-off = λ q _. refl;
-            unmarked = H .unmarked;
-          };
+      framed = framed-same N (N .bit) (W (N .size)) x (H .unmarked);
       sorted = λ i l. H .order i l ∙ home i l;
-      carried = λ i l. ap (λ q. getD (x .trails) (place q) 0) (home i l);
-      canonical = ap (λ n. part bit n (x .bits)) (W-none m h);
+      carried = λ i l. ap (λ q. getD (x .trails) (N .place q) 0) (home i l);
+      canonical = ap (λ n. part (N .bit) n (x .bits)) (W-none (N .size) h);
     }
   where
-    home : (i : ℕ) → i < m → getD o i 0 ≡ i
+    home : (i : ℕ) → i < N .size → getD o i 0 ≡ i
     home i l = omega (arith, O .below i l)
 
 module _ {w : Wiring} (L : Lawful w) where
-  pub net-sets : {m : ℕ} {net : Network} (place : ℕ → ℕ) (bit : ℕ) → Sized m net → Unlike m place → (o : List ℕ) → IsPermutation m o
-      → (x : State) → Holding (at place m bit) o x → Sets w net (at place m bit) o x (setNet w net place bit x)
+  pub net-sets : {m : ℕ} {net : Network} (place : ℕ → ℕ) (bit : ℕ) → Sized m net → Unlike m place
+      → (o : List ℕ) → IsPermutation m o → (x : State) → Holding (at place m bit) o x
+      → Sets w net (at place m bit) o x (setNet w net place bit x)
   unfolding setNet
-  net-sets {m} place bit (none h) U o O x H = nothing w m place bit o x h O H
+  net-sets {m} place bit (none h) U o O x H = nothing w (at place m bit) o x h O H
   net-sets {m} place bit (some {top = top} {bottom = bottom} two t b) U o O x H =
       let N : Subnetwork = at place m bit in
-      let z : State = step5 w N (inputSteps w N x) in
-      let above = net-sets (halfOf w N false .place) (halfOf w N false .bit) t (half-unlike w L m place U false)
-      (orderIn L N U two o O x H false) (half-order L N U two o O x H false) z (top-holding L N U two o O x H) in
-      let from-top : State = setNet w top (halfOf w N false .place) (halfOf w N false .bit) z in
-      let below = net-sets (halfOf w N true .place) (halfOf w N true .bit) b (half-unlike w L m place U true)
-      (orderIn L N U two o O x H true) (half-order L N U two o O x H true) from-top (bottom-holding L N U two o O x H top from-top above) in
-      rw (count-of t)
-      (level L N U two o O x H top from-top above bottom (setNet w bottom (halfOf w N true .place) (halfOf w N true .bit) from-top) below)
+      let T : Subnetwork = halfOf w N false in
+      let B : Subnetwork = halfOf w N true in
+      let entered : State = step5 w N (inputSteps w N x) in
+      let from-top : State = setNet w top (T .place) (T .bit) entered in
+      let from-bottom : State = setNet w bottom (B .place) (B .bit) from-top in
+      let above = net-sets (T .place) (T .bit) t (half-unlike w L m place U false)
+          (orderIn L N U two o O x H false) (half-order L N U two o O x H false)
+          entered (top-holding L N U two o O x H) in
+      let below = net-sets (B .place) (B .bit) b (half-unlike w L m place U true)
+          (orderIn L N U two o O x H true) (half-order L N U two o O x H true)
+          from-top (bottom-holding L N U two o O x H top from-top above) in
+      rw (count-of t) (level L N U two o O x H top from-top above bottom from-bottom below)
 
 -- a table that holds the order, with no pair marked and with room; the bits and trails, and f, c, g, s, are any
 pub record Begins (n : ℕ) (o : List ℕ) (x : State) : Type 0 where
@@ -114,10 +109,13 @@ module _ {w : Wiring} (L : Lawful w) (n : ℕ) (o : List ℕ) (O : IsPermutation
 
     -- THE SETTER'S THEOREM: the steps in their sequence leave the canonical setting
     pub fold-canonical : Canonical w (network n) o (setNet w (network n) (λ i. i) 0 x .bits)
-    fold-canonical =
-        subst (Canonical w (network n) o)
-        (take-all (W n) (setNet w (network n) (λ i. i) 0 x .bits) (omega (arith, whole-sets .framed .bits-length, B .bits-count)))
-        (whole-sets .canonical)
+    fold-canonical = subst (Canonical w (network n) o) (take-all (W n) left all) (whole-sets .canonical)
+      where
+        left : List ℕ
+        left = setNet w (network n) (λ i. i) 0 x .bits
+
+        all : length left ≤ W n
+        all = omega (arith, whole-sets .framed .bits-length, B .bits-count)
 
   -- the setting that the log of an order leaves is the canonical one
   pub setting-canonical : Canonical w (network n) o (settingOf w o (setEntries w n))

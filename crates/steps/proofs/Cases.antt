@@ -46,6 +46,7 @@ cases-run = refl
 
 -- the log of three places: three words for each of the eleven entries
 log-of-three : words (setEntries paper 3)
-    ≡ 1 ∷ 0 ∷ 3 ∷ 2 ∷ 0 ∷ 3 ∷ 3 ∷ 0 ∷ 3 ∷ 1 ∷ 0 ∷ 3 ∷ 2 ∷ 0 ∷ 3 ∷ 3 ∷ 0 ∷ 3 ∷ 4 ∷ 0 ∷ 3 ∷ 5 ∷ 0 ∷ 3 ∷ 5 ∷ 0 ∷ 2 ∷ 6 ∷ 0 ∷ 2 ∷ 6 ∷ 0 ∷ 3 ∷ []
+    ≡ 1 ∷ 0 ∷ 3 ∷ 2 ∷ 0 ∷ 3 ∷ 3 ∷ 0 ∷ 3 ∷ 1 ∷ 0 ∷ 3 ∷ 2 ∷ 0 ∷ 3 ∷ 3 ∷ 0 ∷ 3
+    ∷ 4 ∷ 0 ∷ 3 ∷ 5 ∷ 0 ∷ 3 ∷ 5 ∷ 0 ∷ 2 ∷ 6 ∷ 0 ∷ 2 ∷ 6 ∷ 0 ∷ 3 ∷ []
 unfolding words network networkIn rounds inputEntries entriesOf setEntries
 log-of-three = refl

@@ -42,14 +42,16 @@ module _ (w : Wiring) where
       c : List Entry
       c = entriesOf w bottom (λ i. place (w .enc (up m) (i, true)))
 
-      whole : length (inputEntries (place 0) m ++ (entry 5 (place 0) m ∷ (a ++ (c ++ (entry 6 (place 0) m ∷ []))))) ≡ length (inputEntries (place 0) m) + (2 + (length a + length c))
+      all : List Entry
+      all = inputEntries (place 0) m ++ (entry 5 (place 0) m ∷ (a ++ (c ++ (entry 6 (place 0) m ∷ []))))
+
+      whole : length all ≡ length (inputEntries (place 0) m) + (2 + (length a + length c))
       whole = simp length-append (omega arith)
 
-      small : m ≡ 2 → (length a ≡ E (up m)) → (length c ≡ E (down m)) → 0 + (2 + (length a + length c)) ≡ E m
+      small : m ≡ 2 → length a ≡ E (up m) → length c ≡ E (down m) → 0 + (2 + (length a + length c)) ≡ E m
       small e p q = rw (p, q, e, E-none 1 (omega arith), E-two)
 
-      go : Dec (2 < m) → (length a ≡ E (up m)) → (length c ≡ E (down m))
-          → length (inputEntries (place 0) m ++ (entry 5 (place 0) m ∷ (a ++ (c ++ (entry 6 (place 0) m ∷ []))))) ≡ E m
+      go : Dec (2 < m) → length a ≡ E (up m) → length c ≡ E (down m) → length all ≡ E m
       go (yes h) p q = whole ∙ rw (length-input (place 0) m h, p, q, E-more m h) (omega arith)
       go (no h) p q = whole ∙ rw (input-none (place 0) m (omega arith)) (small (omega arith) p q)
 

@@ -2,7 +2,7 @@
 -- Assumes nothing.
 use mathlib.Core.Path.{_≡_, refl, sym, ap, _∙_}
 use mathlib.Core.Logic.{_⊎_, inl, inr}
-use mathlib.Core.Bool.{Bool, true, false, true≢false}
+use mathlib.Core.Bool.{Bool, true, false, false≢true}
 use mathlib.Core.List.{List, [], _∷_, _++_, List·Memᴰ, List·Memᴰ·not-nil, List·Memᴰ·cases-cons, List·Memᴰ·append-cases}
 use Prim.Native.Nat.{ℕ, zero, suc, _+_, _-_, _≤_, _<_}
 use native.Mathlib.Omega.{arith}
@@ -59,7 +59,9 @@ module _ (w : Wiring) (L : Lawful w) where
       in-half (inl a) = above a
       in-half (inr a) = below a
 
-      go : (N ≡ record { place = place; size = m; bit = bit }) ⊎ OneOf (inTop m top place bit ++ inBottom m top bottom place bit) N
+      go :
+          (N ≡ record { place = place; size = m; bit = bit })
+          ⊎ OneOf (inTop m top place bit ++ inBottom m top bottom place bit) N
           → Where m top bottom place bit N
       go (inl e) = whole e
       go (inr r) = in-half (List·Memᴰ·append-cases (inTop m top place bit) r)
@@ -99,7 +101,9 @@ module _ (w : Wiring) (L : Lawful w) where
   apart : (m : ℕ) (place : ℕ → ℕ) → Unlike m place → (M N : Subnetwork) → Within (up m) (halfAt m place false) M
       → Within (down m) (halfAt m place true) N → M .place 0 ≡ N .place 0 → ⊥
   apart m place U M N a b e =
-      true≢false (ap (λ (p : Side). p .1) (sym (sides-unlike w L m place U false true (a .at) (b .at) (a .at-below) (b .at-below) (sym (a .starts) ∙ e ∙ b .starts))))
+      false≢true
+      (ap (λ (p : Side). p .1)
+      (sides-unlike w L m place U false true (a .at) (b .at) (a .at-below) (b .at-below) (sym (a .starts) ∙ e ∙ b .starts)))
 
   -- 01: there is only one network that has a start and a size
   pub only-of : {m : ℕ} {net : Network} (place : ℕ → ℕ) (bit : ℕ) → Sized m net → Unlike m place → (M N : Subnetwork)

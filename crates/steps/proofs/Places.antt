@@ -65,7 +65,8 @@ module _ (w : Wiring) (L : Lawful w) where
       go false e d = l
       go true e (yes d) = d
       go true e (no d) =
-          let z : w .enc (up m) p ≡ p .0 + up m = ap (λ (t : Bool). w .enc (up m) (p .0, t)) e ∙ last-place (up m) (p .0) (omega arith) in
+          let z : w .enc (up m) p ≡ p .0 + up m
+              = ap (λ (t : Bool). w .enc (up m) (p .0, t)) e ∙ last-place (up m) (p .0) (omega arith) in
           absurd (omega arith)
 
   module _ (m : ℕ) (place : ℕ → ℕ) (U : Unlike m place) where

@@ -3,7 +3,8 @@
 use mathlib.Core.Path.{_≡_, refl, sym, ap, _∙_, subst}
 use mathlib.Core.Logic.{_⊎_, inl, inr}
 use mathlib.Core.Bool.{Bool, true, false, cond, _&&_, true≢false, false≢true}
-use mathlib.Core.List.{List, [], _∷_, _++_, List·Memᴰ·head, List·Memᴰ·tail, List·Memᴰ·not-nil, List·Memᴰ·cases-cons, Memᴰ·append-left, Memᴰ·append-right}
+use mathlib.Core.List.{List, [], _∷_, _++_, Memᴰ·append-left, Memᴰ·append-right}
+use mathlib.Core.List.{List·Memᴰ·head, List·Memᴰ·tail, List·Memᴰ·not-nil, List·Memᴰ·cases-cons}
 use Prim.Native.Nat.{ℕ, zero, suc, _+_, _-_, _≤_, _<_}
 use native.Mathlib.Omega.{arith}
 use lib.Dec.{eqb, ltb}
@@ -69,12 +70,13 @@ module _ (w : Wiring) (L : Lawful w) where
 
   module _ (Ns : List Subnetwork) (S : Single Ns) where
     -- an entry does its step on the network whose start and size it has
-    does : (kind : ℕ) (N : Subnetwork) (x : State) → OneOf Ns N → runEntry w Ns (entry kind (N .place 0) (N .size)) x ≡ step w N kind x
+    does : (kind : ℕ) (N : Subnetwork) (x : State) → OneOf Ns N
+        → runEntry w Ns (entry kind (N .place 0) (N .size)) x ≡ step w N kind x
     unfolding Single
-    does kind N x mem = looked-up Ns N (entry kind (N .place 0) (N .size)) x mem (named N refl refl) unique
+    does kind N x mem = looked-up Ns N (entry kind (N .place 0) (N .size)) x mem itself unique
       where
-        named : (M : Subnetwork) → M .place 0 ≡ N .place 0 → M .size ≡ N .size → names (entry kind (N .place 0) (N .size)) M ≡ true
-        named M p q = rw (eq-eqb (M .place 0) (N .place 0) p, eq-eqb (M .size) (N .size) q)
+        itself : names (entry kind (N .place 0) (N .size)) N ≡ true
+        itself = rw (eq-eqb (N .place 0) (N .place 0) refl, eq-eqb (N .size) (N .size) refl)
 
         both : (a b : Bool) → (a && b) ≡ true → (a ≡ true) × (b ≡ true)
         both true b e = (refl, e)
@@ -98,14 +100,17 @@ module _ (w : Wiring) (L : Lawful w) where
     unfolding inputEntries inputSteps runEntries
     run-input N mem x = go (ltb 2 (N .size))
       where
-        go : (b : Bool) → runEntries w Ns (cond b (rounds (up (N .size)) (N .place 0) (N .size) ++ (entry 4 (N .place 0) (N .size) ∷ [])) []) x
-            ≡ cond b (step4 w N (roundsOf w N (up (N .size)) x)) x
+        all : List Entry
+        all = rounds (up (N .size)) (N .place 0) (N .size) ++ (entry 4 (N .place 0) (N .size) ∷ [])
+
+        go : (b : Bool) → runEntries w Ns (cond b all []) x ≡ cond b (step4 w N (roundsOf w N (up (N .size)) x)) x
         go true =
             run-append Ns (rounds (up (N .size)) (N .place 0) (N .size)) _ x
             ∙ rw (run-rounds N mem (up (N .size)) x, does 4 N _ mem)
         go false = refl
 
-    run-net : {m : ℕ} {net : Network} (place : ℕ → ℕ) (bit : ℕ) → Sized m net → Held (subnetworks w net place bit) Ns → (x : State)
+    run-net : {m : ℕ} {net : Network} (place : ℕ → ℕ) (bit : ℕ) → Sized m net → Held (subnetworks w net place bit) Ns
+        → (x : State)
         → runEntries w Ns (entriesOf w net place) x ≡ setNet w net place bit x
     unfolding entriesOf setNet runEntries subnetworks Held
     run-net place bit (none h) H x = refl
@@ -114,10 +119,12 @@ module _ (w : Wiring) (L : Lawful w) where
         ∙ ap (runEntries w Ns (entry 5 (place 0) m ∷ rest)) (run-input N here x)
         ∙ ap (runEntries w Ns rest) (does 5 N (inputSteps w N x) here)
         ∙ run-append Ns (entriesOf w top (halfAt w L m place false)) rest′ entered
-        ∙ ap (runEntries w Ns rest′) (run-net _ (bit + (up m - 1)) t (λ K k. H K (List·Memᴰ·tail (Memᴰ·append-left _ k))) entered)
+        ∙ ap (runEntries w Ns rest′)
+          (run-net _ (bit + (up m - 1)) t (λ K k. H K (List·Memᴰ·tail (Memᴰ·append-left _ k))) entered)
         ∙ run-append Ns (entriesOf w bottom (halfAt w L m place true)) (entry 6 (place 0) m ∷ []) fromTop
         ∙ ap (runEntries w Ns (entry 6 (place 0) m ∷ []))
-        (run-net _ (bit + ((up m - 1) + switchCount top)) b (λ K k. H K (List·Memᴰ·tail (Memᴰ·append-right (inTop w L m top place bit) k))) fromTop)
+          (run-net _ (bit + ((up m - 1) + switchCount top)) b
+          (λ K k. H K (List·Memᴰ·tail (Memᴰ·append-right (inTop w L m top place bit) k))) fromTop)
         ∙ does 6 N _ here
       where
         N : Subnetwork
@@ -145,7 +152,8 @@ module _ (w : Wiring) (L : Lawful w) where
 
   -- an entry that no call writes leaves the state as it is: its kind is unknown, or no network has its start and size
   pub run-nothing : (n : ℕ) (e : Entry) (x : State)
-      → ((e .kind ≡ 0) ⊎ (6 < e .kind)) ⊎ ((N : Subnetwork) → OneOf (subnetworks w (network n) (λ i. i) 0) N → names e N ≡ false)
+      → ((e .kind ≡ 0) ⊎ (6 < e .kind))
+        ⊎ ((N : Subnetwork) → OneOf (subnetworks w (network n) (λ i. i) 0) N → names e N ≡ false)
       → runSet w n (e ∷ []) x ≡ x
   unfolding runSet runEntries
   run-nothing n e x (inl h) = kind-unknown (subnetworks w (network n) (λ i. i) 0) e x h
