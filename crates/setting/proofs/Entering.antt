@@ -1,29 +1,28 @@
 -- Before the halves: the rounds and step 4 bring each item to the half that the settled input bits send it to (two places
 -- need neither), and step 5 leaves the orders of the halves there, with the sides on the trails.
 -- Assumes nothing.
-use mathlib.Core.Path.{_≡_, refl, sym, ap, _∙_, subst}
-use mathlib.Core.Logic.{_≢_, _⊎_, inl, inr}
-use mathlib.Core.Bool.{Bool, true, false, not, cond}
-use mathlib.Core.List.{List, [], _∷_, _++_}
-use Prim.Native.Nat.{ℕ, zero, suc, _+_, _-_, _*_, _≤_, _<_}
+use mathlib.Core.Path.{_≡_, refl, sym, ap, _∙_}
+use mathlib.Core.Bool.{Bool, cond}
+use mathlib.Core.List.{List, []}
+use Prim.Native.Nat.{ℕ, _+_, _-_, _*_, _≤_, _<_}
 use native.Mathlib.Omega.{arith}
-use native.Mathlib.Decide.{ℕ-discrete, decLt}
-use lib.Dec.{ltb, eqb}
+use native.Mathlib.Decide.{decLt}
+use lib.Dec.{ltb}
 use lib.ListN.{length, getD, take, drop}
 use borrow.Author.Tests.{lt-ltb, le-ltb}
-use Rattle.counts.specs.Counts.{up, W}
+use Rattle.counts.specs.Counts.{up}
 use Rattle.counts.proofs.Rule.{W-more}
 use Rattle.network.specs.Wiring.{Wiring, Lawful, Side}
 use Rattle.network.specs.Network.{down}
 use Rattle.permutation.specs.Permutations.{IsPermutation}
-use Rattle.canonical.specs.Rule.{held, half, HoldAssociates, Apart, LowestStraight, Bits, Ring, here}
+use Rattle.canonical.specs.Rule.{held, half, Apart, LowestStraight, Bits}
 use Rattle.canonical.proofs.Halves.{feeder}
 use Rattle.canonical.proofs.Held.{entry-in}
 use Rattle.steps.specs.Sweeps.{act, each}
 use Rattle.steps.specs.State.{State, Subnetwork}
 use Rattle.steps.specs.Steps.{digit, step4, step5}
 use Rattle.steps.specs.Fold.{roundsOf, inputSteps}
-use Rattle.steps.proofs.Places.{Unlike, sizeOf, half-below, real}
+use Rattle.steps.proofs.Places.{Unlike, sizeOf, real}
 use Rattle.steps.proofs.Sweeps.{length-each, each-at, each-off, length-act}
 use Rattle.setting.proofs.Round.{Ready}
 use Rattle.setting.proofs.Rounds.{Passed, inputOf, rounds-keep, input-count, input-bits, input-apart, input-lowest}

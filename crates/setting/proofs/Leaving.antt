@@ -2,15 +2,14 @@
 -- it had before the network.
 -- Assumes nothing.
 use mathlib.Core.Path.{_≡_, refl, sym, ap, _∙_, subst}
-use mathlib.Core.Logic.{_≢_, _⊎_, inl, inr}
+use mathlib.Core.Logic.{_≢_, inl, inr}
 use mathlib.Core.Bool.{Bool, true, false, not, cond}
-use mathlib.Core.List.{List, [], _∷_, _++_}
-use Prim.Native.Nat.{ℕ, zero, suc, _+_, _-_, _*_, _/_, _%_, _≤_, _<_}
+use mathlib.Core.List.{List}
+use Prim.Native.Nat.{ℕ, _+_, _-_, _*_, _/_, _%_, _≤_, _<_}
 use native.Mathlib.Omega.{arith}
-use native.Mathlib.Decide.{ℕ-discrete, decLt}
-use lib.Dec.{ltb, eqb}
-use lib.ListN.{length, getD, take, drop}
-use Rattle.counts.specs.Counts.{up, W}
+use native.Mathlib.Decide.{decLt}
+use lib.ListN.{length, getD}
+use Rattle.counts.specs.Counts.{up}
 use Rattle.network.specs.Wiring.{Wiring, Lawful, Side}
 use Rattle.network.specs.Network.{down}
 use Rattle.permutation.specs.Permutations.{IsPermutation}
@@ -23,7 +22,7 @@ use Rattle.canonical.proofs.Held.{seat, seat-below, seat-holds}
 use Rattle.steps.specs.Sweeps.{act, each}
 use Rattle.steps.specs.State.{State, Subnetwork, outputBit}
 use Rattle.steps.specs.Steps.{digit, step6}
-use Rattle.steps.proofs.Places.{Unlike, sizeOf, half-below, real, real⁻}
+use Rattle.steps.proofs.Places.{Unlike, sizeOf, real, real⁻}
 use Rattle.steps.proofs.Sweeps.{length-each, each-at, each-off, length-act}
 use Rattle.setting.proofs.Parts.{part, length-part, part-at}
 use Rattle.setting.proofs.Round.{digit-is}
@@ -62,7 +61,7 @@ module _ {w : Wiring} (L : Lawful w) (N : Subnetwork) (U : Unlike (N .size) (N .
     pub value-at : (j : ℕ) (s : Bool) → j < sizeOf (N .size) s → getD (x .values) (at (j, s)) 0 ≡ j
     pub trail-at : (p : Side) → p .0 < up (N .size) → w .enc (up (N .size)) p < N .size
         → getD (x .trails) (at (held w (up (N .size)) o p .0, half input p)) 0
-          ≡ t (w .enc (up (N .size)) p) * 2 + digit (held w (up (N .size)) o p .1)
+        ≡ t (w .enc (up (N .size)) p) * 2 + digit (held w (up (N .size)) o p .1)
 
   module _ (t : ℕ → ℕ) (x : State) (H : Halved t x) where
     abbrev bits′ : List ℕ
@@ -137,7 +136,7 @@ module _ {w : Wiring} (L : Lawful w) (N : Subnetwork) (U : Unlike (N .size) (N .
             rw s
             (ap (λ i. getD output i 0) (sym j-q)
             ∙ from-top q (mate-below L k m (fits L m some o O) o O p l) (rw j-q lj)
-              (proper L m some o O input count A p l ∙ ap not s)
+            (proper L m some o O input count A p l ∙ ap not s)
             ∙ ap (λ (v : Side). digit (v .1)) q-holds)
 
     -- the switches act: each item comes to the side of its value

@@ -1,11 +1,11 @@
 -- One network, given what its halves do: the steps of a network set its bits canonically, sort its values, carry the trails
 -- along and touch nothing else.
 -- Assumes nothing.
-use mathlib.Core.Path.{_≡_, refl, sym, ap, _∙_, subst}
-use mathlib.Core.Logic.{_≢_, _⊎_, inl, inr}
-use mathlib.Core.Bool.{Bool, true, false, not, cond, true≢false, false≢true}
-use mathlib.Core.List.{List, [], _∷_, _++_}
-use Prim.Native.Nat.{ℕ, zero, suc, _+_, _-_, _*_, _≤_, _<_}
+use mathlib.Core.Path.{_≡_, refl, sym, ap, _∙_}
+use mathlib.Core.Logic.{_≢_, inl}
+use mathlib.Core.Bool.{Bool, true, false, true≢false, false≢true}
+use mathlib.Core.List.{List, _++_}
+use Prim.Native.Nat.{ℕ, _+_, _-_, _*_, _≤_, _<_}
 use native.Mathlib.Omega.{arith}
 use lib.ListN.{length, getD}
 use Rattle.counts.specs.Counts.{up, W}
@@ -13,17 +13,17 @@ use Rattle.counts.proofs.Rule.{W-more}
 use Rattle.network.specs.Wiring.{Wiring, Lawful, Side}
 use Rattle.network.specs.Network.{Network, split, down}
 use Rattle.permutation.specs.Permutations.{IsPermutation}
-use Rattle.canonical.specs.Rule.{held, half, orderOfHalf, Settled, Canonical}
-use Rattle.canonical.proofs.Halves.{feeder, feeder-of, half-at, top-permutation, bottom-permutation}
+use Rattle.canonical.specs.Rule.{held, half, orderOfHalf, Canonical}
+use Rattle.canonical.proofs.Halves.{feeder-of, half-at, top-permutation, bottom-permutation}
 use Rattle.steps.specs.State.{State, Subnetwork, outputBit}
 use Rattle.steps.specs.Steps.{digit, step5, step6}
 use Rattle.steps.specs.Fold.{inputSteps}
-use Rattle.steps.proofs.Places.{Unlike, sizeOf, half-below, real, real⁻, sides-unlike}
+use Rattle.steps.proofs.Places.{Unlike, sizeOf, real, real⁻, sides-unlike}
 use Rattle.setting.proofs.Parts.{part, length-part, part-split, same-part}
-use Rattle.setting.proofs.Table.{Holding, Off, Outside, Framed, framed-then, framed-wider, outside-wider}
+use Rattle.setting.proofs.Table.{Holding, Off, Framed, framed-then, framed-wider, outside-wider}
 use Rattle.setting.proofs.Rounds.{inputOf}
 use Rattle.setting.proofs.Turns.{turned-real}
-use Rattle.setting.proofs.Entering.{Entered, entered, Parted}
+use Rattle.setting.proofs.Entering.{Entered, entered}
 use Rattle.setting.proofs.Leaving.{Halved, Left, left}
 
 -- the steps of network N, whose shape is `net`, took the table from x to y
@@ -205,9 +205,9 @@ module _ {w : Wiring} (L : Lawful w) (N : Subnetwork) (U : Unlike (N .size) (N .
       input-stays =
           stays (N .bit) (k - 1) z to-z (omega (arith, count))
           (λ q l h.
-            leaves .framed .bits-off q (inl (omega (arith, out-is)))
-            ∙ B .framed .bits-off q (inl (omega arith))
-            ∙ A .framed .bits-off q (inl (omega arith)))
+          leaves .framed .bits-off q (inl (omega (arith, out-is)))
+          ∙ B .framed .bits-off q (inl (omega arith))
+          ∙ A .framed .bits-off q (inl (omega arith)))
 
       top-stays : part (halfBit N false) (W k) (y .bits) ≡ part (halfBit N false) (W k) (a .bits)
       top-stays =
@@ -237,9 +237,9 @@ module _ {w : Wiring} (L : Lawful w) (N : Subnetwork) (U : Unlike (N .size) (N .
           ∙ part-split (N .bit) (k - 1) (W k + (W (down m) + down m)) (y .bits)
           ∙ ap (λ l. inputBits ++ l) (part-split (halfBit N false) (W k) (W (down m) + down m) (y .bits))
           ∙ ap (λ l. inputBits ++ (topBits ++ l))
-            (ap (λ c. part c (W (down m) + down m) (y .bits)) after-top
-            ∙ part-split (halfBit N true) (W (down m)) (down m) (y .bits)
-            ∙ ap (λ c. bottomBits ++ part c (down m) (y .bits)) after-bottom)
+          (ap (λ c. part c (W (down m) + down m) (y .bits)) after-top
+          ∙ part-split (halfBit N true) (W (down m)) (down m) (y .bits)
+          ∙ ap (λ c. bottomBits ++ part c (down m) (y .bits)) after-bottom)
         where
           after-top : halfBit N false + W k ≡ halfBit N true
           after-top = omega arith
@@ -261,20 +261,20 @@ module _ {w : Wiring} (L : Lawful w) (N : Subnetwork) (U : Unlike (N .size) (N .
             canonical =
                 record {
                   input = input;
-                top = part (halfBit N false) (W k) (a .bits);
-                bottom = part (halfBit N true) (W (down m)) (b .bits);
-                output = outputBits;
-                in-sequence = in-parts ∙ rw (input-stays, top-stays, bottom-stays);
-                settled =
-                    record {
-                      input-count = E .parted .count;
-                      output-count = output-count;
-                      input-bits = E .parted .bits;
-                      apart = E .parted .apart;
-                      lowest-straight = E .parted .lowest;
-                      finished = leaves .finishes;
-                    };
-                in-top = A .canonical;
+                  top = part (halfBit N false) (W k) (a .bits);
+                  bottom = part (halfBit N true) (W (down m)) (b .bits);
+                  output = outputBits;
+                  in-sequence = in-parts ∙ rw (input-stays, top-stays, bottom-stays);
+                  settled =
+                      record {
+                        input-count = E .parted .count;
+                        output-count = output-count;
+                        input-bits = E .parted .bits;
+                        apart = E .parted .apart;
+                        lowest-straight = E .parted .lowest;
+                        finished = leaves .finishes;
+                      };
+                  in-top = A .canonical;
                   in-bottom = B .canonical;
                 };
           }

@@ -1,28 +1,27 @@
 -- Steps 1, 2 and 3 of a network are one round of the walk (crate canonical, Round.antt).
 -- Assumes nothing.
-use mathlib.Core.Path.{_≡_, refl, sym, ap, _∙_, subst}
-use mathlib.Core.Logic.{_≢_, _⊎_, inl, inr}
-use mathlib.Core.Bool.{Bool, true, false, not, cond, true≢false, false≢true}
-use mathlib.Core.List.{List, [], _∷_, _++_}
+use mathlib.Core.Path.{_≡_, refl, sym, ap, _∙_}
+use mathlib.Core.Logic.{_≢_}
+use mathlib.Core.Bool.{Bool, true, false, not, cond, false≢true}
+use mathlib.Core.List.{List}
 use Prim.Native.Nat.{ℕ, zero, suc, _+_, _-_, _≤_, _<_}
 use native.Mathlib.Omega.{arith}
 use native.Mathlib.Decide.{ℕ-discrete, decLt}
 use lib.Dec.{ltb, eqb}
 use lib.ListN.{length, getD}
 use borrow.Author.Tests.{lt-ltb, le-ltb, eq-eqb, ne-eqb, ltb-true}
-use Rattle.answers.specs.Questions.{firstBad, firstBadFrom}
+use Rattle.answers.specs.Questions.{firstBadFrom}
 use Rattle.answers.proofs.Questions.{all-good, none-bad}
 use Rattle.counts.specs.Counts.{up}
 use Rattle.network.specs.Wiring.{Wiring, Lawful, Side}
 use Rattle.permutation.specs.Permutations.{IsPermutation}
 use Rattle.canonical.specs.Rule.{held}
-use Rattle.canonical.proofs.Sides.{turn}
 use Rattle.canonical.proofs.Marks.{Lowest}
-use Rattle.canonical.proofs.Round.{Stage, Begun, Round}
-use Rattle.canonical.proofs.Held.{mate, mate-below, mate-holds, held-at, held-below, entry-in, entry-past}
-use Rattle.steps.specs.Sweeps.{look, seek, store, marked, noneMarked, lowestUnmarked}
+use Rattle.canonical.proofs.Round.{Stage, Round}
+use Rattle.canonical.proofs.Held.{mate, mate-below, mate-holds, held-at, entry-in, entry-past}
+use Rattle.steps.specs.Sweeps.{look, store, marked, noneMarked, lowestUnmarked}
 use Rattle.steps.specs.State.{State, Subnetwork}
-use Rattle.steps.specs.Steps.{other, digit, step1, step2, step3}
+use Rattle.steps.specs.Steps.{other, digit, step2, step3}
 use Rattle.steps.proofs.Sweeps.{length-store, store-at, store-off, look-in, look-out, seek-to}
 
 -- ---- the first bad index

@@ -1,17 +1,17 @@
 -- k rounds of steps 1, 2 and 3 settle the input bits of a network as the rule asks, and touch nothing else but the marks.
 -- Assumes nothing.
-use mathlib.Core.Path.{_≡_, refl, sym, ap, _∙_, subst}
+use mathlib.Core.Path.{_≡_, refl, sym, ap, _∙_}
 use mathlib.Core.Logic.{_≢_, _⊎_, inl, inr}
-use mathlib.Core.Bool.{Bool, true, false, not, cond}
-use mathlib.Core.List.{List, [], _∷_, _++_}
+use mathlib.Core.Bool.{Bool, true, false}
+use mathlib.Core.List.{List}
 use Prim.Native.Nat.{ℕ, zero, suc, _+_, _-_, _≤_, _<_}
 use native.Mathlib.Omega.{arith}
-use native.Mathlib.Decide.{ℕ-discrete, decLt}
-use lib.Dec.{ltb, eqb}
+use native.Mathlib.Decide.{decLt}
+use lib.Dec.{eqb}
 use lib.ListN.{length, getD, List·getD-eq-default}
-use borrow.Author.Tests.{lt-ltb, le-ltb, eq-eqb, ne-eqb, eqb-true}
+use borrow.Author.Tests.{lt-ltb, eqb-true}
 use Rattle.counts.specs.Counts.{up}
-use Rattle.network.specs.Wiring.{Wiring, Lawful, Side}
+use Rattle.network.specs.Wiring.{Wiring, Lawful}
 use Rattle.permutation.specs.Permutations.{IsPermutation}
 use Rattle.canonical.specs.Rule.{Apart, LowestStraight, Bits}
 use Rattle.canonical.proofs.Sides.{clash}

@@ -2,29 +2,29 @@
 -- does running the entries of the log.
 -- Assumes nothing.
 use mathlib.Core.Path.{_≡_, refl, sym, ap, _∙_, subst}
-use mathlib.Core.Bool.{Bool, true, false}
-use mathlib.Core.List.{List, [], _∷_, _++_}
-use Prim.Native.Nat.{ℕ, zero, suc, _+_, _-_, _≤_, _<_}
+use mathlib.Core.Bool.{true, false}
+use mathlib.Core.List.{List}
+use Prim.Native.Nat.{ℕ, zero, suc, _≤_, _<_}
 use native.Mathlib.Omega.{arith}
 use lib.ListN.{length, getD, replicate, length-replicate}
 use lib.Seq.{take-all}
 use Rattle.counts.specs.Counts.{up, W}
 use Rattle.counts.proofs.Rule.{W-none}
 use Rattle.network.specs.Wiring.{Wiring, Lawful}
-use Rattle.network.specs.Network.{Network, wires, split, network, switchCount, down}
+use Rattle.network.specs.Network.{Network, wires, network}
 use Rattle.network.proofs.Shape.{Sized, none, some, sized, count-of}
 use Rattle.permutation.specs.Permutations.{IsPermutation}
 use Rattle.canonical.specs.Rule.{Canonical}
 use Rattle.canonical.proofs.Only.{canonical-unique}
 use Rattle.steps.specs.State.{State, Subnetwork, start}
-use Rattle.steps.specs.Steps.{step5, step6}
+use Rattle.steps.specs.Steps.{step5}
 use Rattle.steps.specs.Sequence.{setEntries}
 use Rattle.steps.specs.Run.{runSet, settingOf}
 use Rattle.steps.specs.Fold.{inputSteps, setNet}
 use Rattle.steps.proofs.Places.{Unlike, half-unlike}
 use Rattle.steps.proofs.Running.{run-is-fold}
 use Rattle.setting.proofs.Parts.{part}
-use Rattle.setting.proofs.Table.{Holding, Framed, framed-same}
+use Rattle.setting.proofs.Table.{Holding, framed-same}
 use Rattle.setting.proofs.Level.{Sets, halfOf, orderIn, half-order, top-holding, bottom-holding, level}
 
 abbrev pub at : (ℕ → ℕ) → ℕ → ℕ → Subnetwork
@@ -59,11 +59,11 @@ module _ {w : Wiring} (L : Lawful w) where
       let from-top : State = setNet w top (T .place) (T .bit) entered in
       let from-bottom : State = setNet w bottom (B .place) (B .bit) from-top in
       let above = net-sets (T .place) (T .bit) t (half-unlike w L m place U false)
-          (orderIn L N U two o O x H false) (half-order L N U two o O x H false)
-          entered (top-holding L N U two o O x H) in
+      (orderIn L N U two o O x H false) (half-order L N U two o O x H false)
+      entered (top-holding L N U two o O x H) in
       let below = net-sets (B .place) (B .bit) b (half-unlike w L m place U true)
-          (orderIn L N U two o O x H true) (half-order L N U two o O x H true)
-          from-top (bottom-holding L N U two o O x H top from-top above) in
+      (orderIn L N U two o O x H true) (half-order L N U two o O x H true)
+      from-top (bottom-holding L N U two o O x H top from-top above) in
       rw (count-of t) (level L N U two o O x H top from-top above bottom from-bottom below)
 
 -- a table that holds the order, with no pair marked and with room; the bits and trails, and f, c, g, s, are any

@@ -1,18 +1,17 @@
 -- The setter logs E n entries, three words each.
 -- Assumes nothing.
 use mathlib.Core.Path.{_≡_, refl, sym, ap, _∙_}
-use mathlib.Core.Bool.{Bool, true, false, cond}
+use mathlib.Core.Bool.{true, false}
 use mathlib.Core.List.{List, [], _∷_, _++_}
-use Prim.Native.Nat.{ℕ, zero, suc, _+_, _*_, _-_, _≤_, _<_}
+use Prim.Native.Nat.{ℕ, zero, suc, _+_, _*_, _≤_, _<_}
 use native.Mathlib.Omega.{arith}
 use native.Mathlib.Decide.{decLt}
-use lib.Dec.{ltb}
 use lib.ListN.{length, length-append}
 use borrow.Author.Tests.{lt-ltb, le-ltb}
 use Rattle.counts.specs.Counts.{up, E}
 use Rattle.counts.proofs.Rule.{E-none, E-two, E-more}
 use Rattle.network.specs.Wiring.{Wiring}
-use Rattle.network.specs.Network.{Network, network, down}
+use Rattle.network.specs.Network.{Network, down}
 use Rattle.network.specs.Log.{Entry, words}
 use Rattle.network.proofs.Shape.{Sized, none, some, sized, length-words}
 use Rattle.steps.specs.Sequence.{entry, rounds, inputEntries, entriesOf, setEntries}

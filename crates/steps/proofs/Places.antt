@@ -1,11 +1,10 @@
 -- The places of a network under a lawful wiring: which sides are real, and that the halves' places are unlike.
 -- Assumes nothing.
 use mathlib.Core.Path.{_≡_, refl, sym, ap, _∙_, subst}
-use mathlib.Core.Logic.{_≢_, _⊎_, inl, inr}
 use mathlib.Core.Bool.{Bool, true, false, true≢false}
-use Prim.Native.Nat.{ℕ, zero, suc, _+_, _-_, _≤_, _<_}
+use Prim.Native.Nat.{ℕ, suc, _+_, _-_, _≤_, _<_}
 use native.Mathlib.Omega.{arith}
-use native.Mathlib.Decide.{ℕ-discrete, decLt}
+use native.Mathlib.Decide.{decLt}
 use Rattle.counts.specs.Counts.{up}
 use Rattle.network.specs.Wiring.{Wiring, Lawful, Side}
 use Rattle.network.specs.Network.{down}
@@ -66,7 +65,7 @@ module _ (w : Wiring) (L : Lawful w) where
       go true e (yes d) = d
       go true e (no d) =
           let z : w .enc (up m) p ≡ p .0 + up m
-              = ap (λ (t : Bool). w .enc (up m) (p .0, t)) e ∙ last-place (up m) (p .0) (omega arith) in
+          = ap (λ (t : Bool). w .enc (up m) (p .0, t)) e ∙ last-place (up m) (p .0) (omega arith) in
           absurd (omega arith)
 
   module _ (m : ℕ) (place : ℕ → ℕ) (U : Unlike m place) where

@@ -5,13 +5,13 @@ use mathlib.Core.Logic.{_⊎_, inl, inr}
 use mathlib.Core.Bool.{Bool, true, false, cond, _&&_, true≢false, false≢true}
 use mathlib.Core.List.{List, [], _∷_, _++_, Memᴰ·append-left, Memᴰ·append-right}
 use mathlib.Core.List.{List·Memᴰ·head, List·Memᴰ·tail, List·Memᴰ·not-nil, List·Memᴰ·cases-cons}
-use Prim.Native.Nat.{ℕ, zero, suc, _+_, _-_, _≤_, _<_}
+use Prim.Native.Nat.{ℕ, zero, suc, _+_, _-_, _<_}
 use native.Mathlib.Omega.{arith}
 use lib.Dec.{eqb, ltb}
 use borrow.Author.Tests.{eqb-true, eq-eqb}
 use Rattle.counts.specs.Counts.{up}
 use Rattle.network.specs.Wiring.{Wiring, Lawful}
-use Rattle.network.specs.Network.{Network, wires, split, network, switchCount, down}
+use Rattle.network.specs.Network.{Network, network, switchCount}
 use Rattle.network.specs.Log.{Entry}
 use Rattle.network.proofs.Shape.{Sized, none, some, sized}
 use Rattle.steps.specs.State.{State, Subnetwork}
@@ -120,11 +120,11 @@ module _ (w : Wiring) (L : Lawful w) where
         ∙ ap (runEntries w Ns rest) (does 5 N (inputSteps w N x) here)
         ∙ run-append Ns (entriesOf w top (halfAt w L m place false)) rest′ entered
         ∙ ap (runEntries w Ns rest′)
-          (run-net _ (bit + (up m - 1)) t (λ K k. H K (List·Memᴰ·tail (Memᴰ·append-left _ k))) entered)
+        (run-net _ (bit + (up m - 1)) t (λ K k. H K (List·Memᴰ·tail (Memᴰ·append-left _ k))) entered)
         ∙ run-append Ns (entriesOf w bottom (halfAt w L m place true)) (entry 6 (place 0) m ∷ []) fromTop
         ∙ ap (runEntries w Ns (entry 6 (place 0) m ∷ []))
-          (run-net _ (bit + ((up m - 1) + switchCount top)) b
-          (λ K k. H K (List·Memᴰ·tail (Memᴰ·append-right (inTop w L m top place bit) k))) fromTop)
+        (run-net _ (bit + ((up m - 1) + switchCount top)) b
+        (λ K k. H K (List·Memᴰ·tail (Memᴰ·append-right (inTop w L m top place bit) k))) fromTop)
         ∙ does 6 N _ here
       where
         N : Subnetwork
@@ -145,6 +145,12 @@ module _ (w : Wiring) (L : Lawful w) where
         fromTop : State
         fromTop = setNet w top (halfAt w L m place false) (bit + (up m - 1)) entered
 
+  -- the lookup finds each network within the whole: an entry with its start and size does its step there
+  pub finds : (n kind : ℕ) (N : Subnetwork) (x : State) → OneOf (subnetworks w (network n) (λ i. i) 0) N
+      → runSet w n (entry kind (N .place 0) (N .size) ∷ []) x ≡ step w N kind x
+  unfolding runSet runEntries
+  finds n kind N x mem = does (subnetworks w (network n) (λ i. i) 0) (only-one w L n) kind N x mem
+
   -- running the setter's entries is the fold of its steps
   pub run-is-fold : (n : ℕ) (x : State) → runSet w n (setEntries w n) x ≡ setNet w (network n) (λ i. i) 0 x
   unfolding runSet setEntries Held
@@ -153,7 +159,7 @@ module _ (w : Wiring) (L : Lawful w) where
   -- an entry that no call writes leaves the state as it is: its kind is unknown, or no network has its start and size
   pub run-nothing : (n : ℕ) (e : Entry) (x : State)
       → ((e .kind ≡ 0) ⊎ (6 < e .kind))
-        ⊎ ((N : Subnetwork) → OneOf (subnetworks w (network n) (λ i. i) 0) N → names e N ≡ false)
+      ⊎ ((N : Subnetwork) → OneOf (subnetworks w (network n) (λ i. i) 0) N → names e N ≡ false)
       → runSet w n (e ∷ []) x ≡ x
   unfolding runSet runEntries
   run-nothing n e x (inl h) = kind-unknown (subnetworks w (network n) (λ i. i) 0) e x h

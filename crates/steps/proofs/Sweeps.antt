@@ -1,16 +1,16 @@
 -- What the sweeps leave at a place: at the places that they sweep, and at every other.
 -- Assumes nothing.
-use mathlib.Core.Path.{_≡_, refl, sym, ap, _∙_, subst}
-use mathlib.Core.Logic.{_≢_, _⊎_, inl, inr}
-use mathlib.Core.Bool.{Bool, true, false, not, cond, true≢false, false≢true}
-use mathlib.Core.List.{List, [], _∷_, _++_}
-use Prim.Native.Nat.{ℕ, zero, suc, _+_, _-_, _≤_, _<_}
+use mathlib.Core.Path.{_≡_, refl, ap, _∙_}
+use mathlib.Core.Logic.{_≢_}
+use mathlib.Core.Bool.{Bool, true, false, not, cond, false≢true}
+use mathlib.Core.List.{List}
+use Prim.Native.Nat.{ℕ, zero, suc, _+_, _≤_, _<_}
 use native.Mathlib.Omega.{arith}
 use native.Mathlib.Decide.{ℕ-discrete, decLt}
 use lib.Dec.{ltb, eqb}
 use lib.ListN.{length, getD, set, length-set}
 use lib.Seq.{getD-set-same, getD-set-other}
-use borrow.Author.Tests.{lt-ltb, le-ltb, eq-eqb, ne-eqb, eqb-true}
+use borrow.Author.Tests.{lt-ltb, le-ltb, eq-eqb, ne-eqb}
 use Rattle.network.specs.Wiring.{Side}
 use Rattle.network.specs.Move.{switch}
 use Rattle.network.proofs.Shape.{length-switch}
@@ -35,13 +35,14 @@ module _ (place : ℕ → ℕ) (F : ℕ → ℕ → ℕ) (xs : List ℕ) where
       → getD (each place m F xs) (place i) 0 ≡ F i (getD xs (place i) 0)
   unfolding each Unlike
   each-at zero U room i l = absurd (omega arith)
-  each-at (suc m) U room i l = go (ℕ-discrete i m) (each-at m (λ a b la lb. U a b (omega arith) (omega arith)) (λ j lj. room j (omega arith)) i)
+  each-at (suc m) U room i l =
+      go (ℕ-discrete i m) (each-at m (λ a b la lb. U a b (omega arith) (omega arith)) (λ j lj. room j (omega arith)) i)
     where
       apart : (j : ℕ) → j < m → place m ≢ place j
       apart j lj e = omega (arith, U m j (omega arith) (omega arith) e)
 
       go : Dec (i ≡ m) → (i < m → getD (each place m F xs) (place i) 0 ≡ F i (getD xs (place i) 0))
-          → getD (set (each place m F xs) (place m) (F m (getD (each place m F xs) (place m) 0))) (place i) 0 ≡ F i (getD xs (place i) 0)
+          → getD (each place (suc m) F xs) (place i) 0 ≡ F i (getD xs (place i) 0)
       go (yes e) ih =
           rw e
           (getD-set-same (each place m F xs) (place m) _ 0 (omega (arith, length-each m, room m (omega arith)))
@@ -95,20 +96,28 @@ module _ (at : Side → ℕ) (bits : List ℕ) (b : ℕ) (xs : List ℕ) where
   unfolding act
   act-off zero z d = refl
   act-off (suc c) z d =
-      switch-off (at (c, false)) (at (c, true)) (getD bits (b + c) 0) (act at bits b c xs) z (d (c, false) (omega arith)) (d (c, true) (omega arith))
+      switch-off (at (c, false)) (at (c, true)) (getD bits (b + c) 0) (act at bits b c xs) z
+      (d (c, false) (omega arith))
+      (d (c, true) (omega arith))
       ∙ act-off c z (λ p l. d p (omega arith))
 
   pub act-at : (c : ℕ) → SidesUnlike c at → ((p : Side) → p .0 < c → at p < length xs) → (i : ℕ) (t : Bool) → i < c
       → getD (act at bits b c xs) (at (i, t)) 0 ≡ getD xs (at (i, turned (getD bits (b + i) 0) t)) 0
   unfolding act SidesUnlike
   act-at zero U room i t l = absurd (omega arith)
-  act-at (suc c) U room i t l = go (ℕ-discrete i c) (act-at c (λ p q lp lq. U p q (omega arith) (omega arith)) (λ p lp. room p (omega arith)) i t)
+  act-at (suc c) U room i t l =
+      go (ℕ-discrete i c) (act-at c (λ p q lp lq. U p q (omega arith) (omega arith)) (λ p lp. room p (omega arith)) i t)
     where
       ys : List ℕ
       ys = act at bits b c xs
 
+      bit : ℕ
+      bit = getD bits (b + c) 0
+
       still : (u : Bool) → getD ys (at (c, u)) 0 ≡ getD xs (at (c, u)) 0
-      still u = act-off c (at (c, u)) (λ p lp e. omega (arith, ap (λ (r : Side). r .0) (U (c, u) p (omega arith) (omega arith) e)))
+      still u =
+          act-off c (at (c, u))
+          (λ p lp e. omega (arith, ap (λ (r : Side). r .0) (U (c, u) p (omega arith) (omega arith) e)))
 
       room′ : (u : Bool) → at (c, u) < length ys
       room′ u = omega (arith, length-act c, room (c, u) (omega arith))
@@ -116,22 +125,22 @@ module _ (at : Side → ℕ) (bits : List ℕ) (b : ℕ) (xs : List ℕ) where
       two : at (c, false) ≢ at (c, true)
       two e = false≢true (ap (λ (r : Side). r .1) (U (c, false) (c, true) (omega arith) (omega arith) e))
 
-      pick : (s : Bool) (u v : Bool) → getD ys (cond s (at (c, u)) (at (c, v))) 0 ≡ getD xs (at (c, cond s u v)) 0
+      other : i ≢ c → (u : Bool) → at (i, t) ≢ at (c, u)
+      other n u e = n (ap (λ (r : Side). r .0) (U (i, t) (c, u) (omega arith) (omega arith) e))
+
+      pick : (s u v : Bool) → getD ys (cond s (at (c, u)) (at (c, v))) 0 ≡ getD xs (at (c, cond s u v)) 0
       pick true u v = still u
       pick false u v = still v
 
-      last : (u : Bool) → getD (switch 0 (at (c, false)) (at (c, true)) (getD bits (b + c) 0) ys) (at (c, u)) 0 ≡ getD xs (at (c, turned (getD bits (b + c) 0) u)) 0
-      last false = switch-lower (at (c, false)) (at (c, true)) (getD bits (b + c) 0) ys two (room′ false) ∙ pick (eqb (getD bits (b + c) 0) 1) true false
-      last true = switch-upper (at (c, false)) (at (c, true)) (getD bits (b + c) 0) ys (room′ true) ∙ pick (eqb (getD bits (b + c) 0) 1) false true
+      last : (u : Bool) → getD (act at bits b (suc c) xs) (at (c, u)) 0 ≡ getD xs (at (c, turned bit u)) 0
+      last false = switch-lower (at (c, false)) (at (c, true)) bit ys two (room′ false) ∙ pick (eqb bit 1) true false
+      last true = switch-upper (at (c, false)) (at (c, true)) bit ys (room′ true) ∙ pick (eqb bit 1) false true
 
       go : Dec (i ≡ c) → (i < c → getD ys (at (i, t)) 0 ≡ getD xs (at (i, turned (getD bits (b + i) 0) t)) 0)
-          → getD (switch 0 (at (c, false)) (at (c, true)) (getD bits (b + c) 0) ys) (at (i, t)) 0 ≡ getD xs (at (i, turned (getD bits (b + i) 0) t)) 0
+          → getD (act at bits b (suc c) xs) (at (i, t)) 0 ≡ getD xs (at (i, turned (getD bits (b + i) 0) t)) 0
       go (yes e) ih = rw e (last t)
       go (no n) ih =
-          switch-off (at (c, false)) (at (c, true)) (getD bits (b + c) 0) ys (at (i, t))
-          (λ e. n (ap (λ (r : Side). r .0) (U (i, t) (c, false) (omega arith) (omega arith) e)))
-          (λ e. n (ap (λ (r : Side). r .0) (U (i, t) (c, true) (omega arith) (omega arith) e)))
-          ∙ ih (omega arith)
+          switch-off (at (c, false)) (at (c, true)) bit ys (at (i, t)) (other n false) (other n true) ∙ ih (omega arith)
 
 -- ---- store, look, seek
 
@@ -170,13 +179,15 @@ module _ (place : ℕ → ℕ) (xs : List ℕ) where
       → seek place m xs a ≡ cond (ltb r m) r a
   unfolding seek
   seek-to a r zero h e = rw (le-ltb r zero (omega arith))
-  seek-to a r (suc m) h e = go (seek-to a r m (λ q l. h q (omega arith)) (λ l. e (omega arith))) (ℕ-discrete m r) (decLt r m)
+  seek-to a r (suc m) h e =
+      go (seek-to a r m (λ q l. h q (omega arith)) (λ l. e (omega arith))) (ℕ-discrete m r) (decLt r m)
     where
       other : m ≢ r → eqb (getD xs (place m) 0) a ≡ false
       other d = ne-eqb (getD xs (place m) 0) a (λ u. d (h m (omega arith) u))
 
       go : seek place m xs a ≡ cond (ltb r m) r a → Dec (m ≡ r) → Dec (r < m)
           → cond (eqb (getD xs (place m) 0) a) m (seek place m xs a) ≡ cond (ltb r (suc m)) r a
-      go ih (yes d) z = rw (eq-eqb (getD xs (place m) 0) a (ap (λ q. getD xs (place q) 0) d ∙ e (omega arith)), lt-ltb r (suc m) (omega arith)) d
+      go ih (yes d) z =
+          rw (eq-eqb (getD xs (place m) 0) a (ap (λ q. getD xs (place q) 0) d ∙ e (omega arith)), lt-ltb r (suc m) (omega arith)) d
       go ih (no d) (yes z) = rw (other d, ih, lt-ltb r m z, lt-ltb r (suc m) (omega arith))
       go ih (no d) (no z) = rw (other d, ih, le-ltb r m (omega arith), le-ltb r (suc m) (omega arith))
