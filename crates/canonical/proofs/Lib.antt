@@ -11,3 +11,4 @@ pub mod Halves
 pub mod Setting
 pub mod Only
 pub mod Carry
+pub mod Cases
