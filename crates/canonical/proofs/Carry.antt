@@ -21,8 +21,7 @@ use Rattle.network.proofs.Order.{length-order, order-at, order-forward, order-b
 use Rattle.permutation.specs.Permutations.{IsPermutation}
 use Rattle.canonical.specs.Rule.{held, half, orderOfHalf, Settled, SettledWith, Canonical}
 use Rattle.canonical.specs.Carry.{Carries, BringsHome}
-use Rattle.canonical.proofs.Sides.{turn, turn-turn}
-use Rattle.canonical.proofs.Walk.{bitAt}
+use Rattle.canonical.proofs.Sides.{bitAt, bitAt-past, turn, turn-turn}
 use Rattle.canonical.proofs.Held.{entry-in, held-below, held-at}
 use Rattle.canonical.proofs.Halves.{feeder, feeder-of, half-at, fits, top-permutation, bottom-permutation, out-law}
 use Rattle.canonical.proofs.Only.{canonical-count}
@@ -42,7 +41,7 @@ crosses-bit c bits xs e same i = go (decLt i c)
     go (yes l) = crosses-in c bits i l ∙ ap (λ b. eqb b 1) (same i l)
     go (no l) =
         crosses-past c bits i (omega arith)
-        ∙ sym (ap (λ b. eqb b 1) (List·getD-eq-default xs 0 {n = i} (omega arith)))
+        ∙ sym (bitAt-past xs i (omega arith))
 
 turned-bit : (a b : ℕ → Bool) → ((i : ℕ) → a i ≡ b i) → (p : Side) → turned a p ≡ (p .0, turn (b (p .0)) (p .1))
 turned-bit a b same p = λ i. (p .0, (ap (flipped (p .1)) (same (p .0)) ∙ flipped-turn (p .1) (b (p .0))) i)
@@ -120,11 +119,11 @@ module _
 -- ---- all networks
 
 -- whatever bits follow those of the network
-carried : {w : Wiring} → Lawful w → {m : ℕ} {net : Network} → Sized m net → (o : List ℕ) → IsPermutation m o
+pub canonical-carries-of : {w : Wiring} → Lawful w → {m : ℕ} {net : Network} → Sized m net → (o : List ℕ) → IsPermutation m o
     → (bits rest : List ℕ) → Canonical w net o bits → (q : ℕ) → q < m → goesTo w net (bits ++ rest) q ≡ getD o q 0
 unfolding Canonical across
-carried L (none z) o O bits rest C q h = omega (arith, O .below q h)
-carried {w} L {m} (some {top = top} {bottom = bottom} two t u) o O bits rest C q h =
+canonical-carries-of L (none z) o O bits rest C q h = omega (arith, O .below q h)
+canonical-carries-of {w} L {m} (some {top = top} {bottom = bottom} two t u) o O bits rest C q h =
     let S = C .settled in
     let afterBottom = C .output ++ rest in
     let afterTop = C .bottom ++ afterBottom in
@@ -139,8 +138,8 @@ carried {w} L {m} (some {top = top} {bottom = bottom} two t u) o O bits rest C q
     (level L m two o O (C .input) (C .output) afterInput rest S
       (goesTo w top afterInput)
       (goesTo w bottom afterTop)
-      (carried L t _ (top-permutation L m (omega arith) o O (C .input) (S .input-count) (S .apart)) (C .top) afterTop (C .in-top))
-      (carried L u _ (bottom-permutation L m (omega arith) o O (C .input) (S .input-count) (S .apart)) (C .bottom) afterBottom (C .in-bottom))
+      (canonical-carries-of L t _ (top-permutation L m (omega arith) o O (C .input) (S .input-count) (S .apart)) (C .top) afterTop (C .in-top))
+      (canonical-carries-of L u _ (bottom-permutation L m (omega arith) o O (C .input) (S .input-count) (S .apart)) (C .bottom) afterBottom (C .in-bottom))
       q
       h)
 
@@ -153,7 +152,7 @@ module _ {w : Wiring} (L : Lawful w) (n : ℕ) (o : List ℕ) (O : IsPermutation
         let h : i < n = omega (arith, length-order L n bits) in
         order-at L n bits i h
         ∙ ap (λ b. goesTo w (network n) b i) (sym (append-nil bits))
-        ∙ carried L (sized n) o O bits [] C i h)
+        ∙ canonical-carries-of L (sized n) o O bits [] C i h)
 
   module _ {A : Type 0} (d : A) (xs : List A) (long : length xs ≡ n) where
     pub canonical-carries : Carries d w n o bits xs

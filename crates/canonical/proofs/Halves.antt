@@ -15,9 +15,8 @@ use Rattle.network.specs.Network.{down}
 use Rattle.permutation.specs.Permutations.{IsPermutation}
 use Rattle.permutation.proofs.Tables.{length-tabulate, tabulate-at}
 use Rattle.canonical.specs.Rule.{held, half, HoldAssociates, Apart, Finished, orderOfHalf}
-use Rattle.canonical.proofs.Sides.{clash, turn, turn-turn, other, same-pair}
+use Rattle.canonical.proofs.Sides.{bitAt, bit-is, bitAt-past, turn, turn-turn, other, same-pair}
 use Rattle.canonical.proofs.Rings.{Proper}
-use Rattle.canonical.proofs.Walk.{bitAt}
 use Rattle.canonical.proofs.Held.{entry-past, held-below, held-unlike, seat, seat-below, seat-holds, mate, mate-only, apart-proper}
 
 -- the place of pair i whose item enters half t
@@ -68,9 +67,9 @@ module _ {w : Wiring} (L : Lawful w) (m : ℕ) (some : 0 < m) (o : List ℕ) (O 
     proper = apart-proper L k m fits o O input A
 
     -- the last pair is straight
-    last-enters : (j : ℕ) (t : Bool) → suc j ≡ up m → half input (j, t) ≡ t
+    pub last-enters : (j : ℕ) (t : Bool) → suc j ≡ up m → half input (j, t) ≡ t
     unfolding half
-    last-enters j t e = ap (λ b. turn (eqb b 1) t) (List·getD-eq-default input 0 {n = j} (omega arith))
+    last-enters j t e = ap (λ b. turn b t) (bitAt-past input j (omega arith))
 
     -- two items that enter one half are no associates
     pub unlike-in-half : (t : Bool) (i j : ℕ) → i < up m → j < up m
@@ -121,10 +120,6 @@ module _ {w : Wiring} (L : Lawful w) (m : ℕ) (some : 0 < m) (o : List ℕ) (O 
                 (omega (arith, unlike-in-half true i j (omega arith) j-below (sym (ap (λ (p : Side). p .0) itself)), I .last))
 
     module _ (output : List ℕ) (out-count : length output ≡ down m) (F : Finished w m o input output) where
-      bit-is : (b : Bool) → eqb (cond b 0 1) 1 ≡ not b
-      bit-is true = refl
-      bit-is false = refl
-
       -- the half of the item whose value is (j, true), given as v's own side or the other
       side-law : (s h g : Bool) → (s ≡ true → g ≡ h) → (s ≡ false → g ≡ not h) → turn (not g) s ≡ h
       side-law true h true a b = a refl
@@ -165,6 +160,6 @@ module _ {w : Wiring} (L : Lawful w) (m : ℕ) (some : 0 < m) (o : List ℕ) (O 
               ∙ other-half p q l h e
           go (no x) =
               let I = imagined j (omega arith) j-below in
-              ap (λ b. turn (eqb b 1) (held w k o p .1)) (List·getD-eq-default output 0 {n = j} (omega arith))
+              ap (λ b. turn b (held w k o p .1)) (bitAt-past output j (omega arith))
               ∙ ap (λ g. turn (not g) (held w k o p .1)) (sym (last-enters j true (I .last)))
               ∙ other-half p (j, true) l j-below (I .holds-itself)

@@ -15,9 +15,8 @@ use Rattle.network.specs.Wiring.{Wiring, Lawful, Side}
 use Rattle.permutation.specs.Permutations.{IsPermutation, placeOf}
 use Rattle.permutation.proofs.Inverses.{place-below, place-holds, place-only}
 use Rattle.canonical.specs.Rule.{held, half, HoldAssociates, Apart, Linked, Ring, here, link, LowestStraight, Bits}
-use Rattle.canonical.proofs.Sides.{other, other-other, other-unlike, unlike-not, not-self, enters}
+use Rattle.canonical.proofs.Sides.{bitAt, bitAt-past, other, other-other, other-unlike, unlike-not, not-self, enters}
 use Rattle.canonical.proofs.Rings.{Chain, stay, along, Matching, Proper, Ruled}
-use Rattle.canonical.proofs.Walk.{bitAt}
 
 -- inside a list the default does not matter
 pub getD-inside : {A : Type 0} (xs : List A) (i : ℕ) (d e : A) → i < length xs → getD xs i d ≡ getD xs i e
@@ -184,9 +183,6 @@ module _ {w : Wiring} (L : Lawful w) (k m : ℕ) (fits : m ≤ k + k) (o : List 
           go (yes l) = omega (arith, B i l, eqb-false (getD input i 0) 1 e)
           go (no l) = List·getD-eq-default input 0 {n = i} (omega arith)
 
-      zero-straight : (i : ℕ) → getD input i 0 ≡ 0 → bitAt input i ≡ false
-      zero-straight i e = rw e refl
-
       pub ruled-lowest : Ruled k (mate w k o) (bitAt input) → LowestStraight w k o input
       unfolding LowestStraight
       ruled-lowest R i l apart lowest =
@@ -197,7 +193,7 @@ module _ {w : Wiring} (L : Lawful w) (k m : ℕ) (fits : m ≤ k + k) (o : List 
       unfolding LowestStraight
       lowest-ruled R =
           record {
-            last-straight = λ i e. zero-straight i (List·getD-eq-default input 0 {n = i} (omega arith));
+            last-straight = λ i e. bitAt-past input i (omega arith);
             lowest-straight = λ i l lowest apart.
-              zero-straight i (R i l (λ r. apart (k - 1) (omega arith) (ring-chain r)) (λ j r. lowest j (ring-below r l) (ring-chain r)))
+              ap (λ b. eqb b 1) (R i l (λ r. apart (k - 1) (omega arith) (ring-chain r)) (λ j r. lowest j (ring-below r l) (ring-chain r)))
           }

@@ -11,4 +11,5 @@ pub mod Halves
 pub mod Setting
 pub mod Only
 pub mod Carry
+pub mod Steps
 pub mod Cases

@@ -15,9 +15,9 @@ use Rattle.network.specs.Wiring.{Wiring, Lawful, Side}
 use Rattle.network.specs.Network.{Network, wires, split, network, switchCount, down}
 use Rattle.network.proofs.Shape.{Sized, none, some, sized, count-is}
 use Rattle.permutation.specs.Permutations.{IsPermutation}
-use Rattle.canonical.specs.Rule.{half, Finished, orderOfHalf, Bits, Settled, SettledWith, Canonical}
+use Rattle.canonical.specs.Rule.{half, Finished, orderOfHalf, Bits, Settled, SettledWith, Canonical, ExactlyOne}
 use Rattle.canonical.proofs.Rings.{unique}
-use Rattle.canonical.proofs.Walk.{bitAt}
+use Rattle.canonical.proofs.Sides.{bitAt, bit-below}
 use Rattle.canonical.proofs.Held.{seat, seat-below, seat-holds, mate, matching, apart-proper, lowest-ruled}
 use Rattle.canonical.proofs.Halves.{fits, top-permutation, bottom-permutation}
 use Rattle.canonical.proofs.Setting.{setting, canonical-exists}
@@ -56,10 +56,6 @@ same-bit a b h l e = go (eqb a 1) refl
     go : (t : Bool) → eqb a 1 ≡ t → a ≡ b
     go true q = eqb-true a 1 q ∙ sym (eqb-true b 1 (sym e ∙ q))
     go false q = omega (arith, eqb-false a 1 q, eqb-false b 1 (sym e ∙ q))
-
-bit-below : (t : Bool) → cond t 0 1 < 2
-bit-below true = omega arith
-bit-below false = omega arith
 
 -- ---- one network
 
@@ -137,36 +133,40 @@ module _ {w : Wiring} (L : Lawful w) (m : ℕ) (two : 2 ≤ m) (o : List ℕ) (O
 
 -- ---- all networks
 
-unique-of : {w : Wiring} → Lawful w → {m : ℕ} {net : Network} → Sized m net → (o : List ℕ) → IsPermutation m o
+pub canonical-unique-of : {w : Wiring} → Lawful w → {m : ℕ} {net : Network} → Sized m net → (o : List ℕ) → IsPermutation m o
     → (a b : List ℕ) → Canonical w net o a → Canonical w net o b → a ≡ b
 unfolding Canonical
-unique-of L (none h) o O a b A B = A ∙ sym B
-unique-of {w} L {m} (some {top = top} {bottom = bottom} h t u) o O a b A B =
-    same-with L m h o O (Canonical w top) (Canonical w bottom) (λ q Q. unique-of L t q Q) (λ q Q. unique-of L u q Q) a b A B
+canonical-unique-of L (none h) o O a b A B = A ∙ sym B
+canonical-unique-of {w} L {m} (some {top = top} {bottom = bottom} h t u) o O a b A B =
+    same-with L m h o O (Canonical w top) (Canonical w bottom) (λ q Q. canonical-unique-of L t q Q) (λ q Q. canonical-unique-of L u q Q) a b A B
 
 -- two canonical settings of one order are equal
 pub canonical-unique : {w : Wiring} → Lawful w → (n : ℕ) (o : List ℕ) → IsPermutation n o
     → (a b : List ℕ) → Canonical w (network n) o a → Canonical w (network n) o b → a ≡ b
-canonical-unique L n o O = unique-of L (sized n) o O
+canonical-unique L n o O = canonical-unique-of L (sized n) o O
 
-bits-of : {w : Wiring} → Lawful w → {m : ℕ} {net : Network} → Sized m net → (o : List ℕ) → IsPermutation m o
+pub canonical-bits-of : {w : Wiring} → Lawful w → {m : ℕ} {net : Network} → Sized m net → (o : List ℕ) → IsPermutation m o
     → (a : List ℕ) → Canonical w net o a → Bits a
 unfolding Canonical Bits
-bits-of L (none h) o O a A = λ i l. absurd (omega (arith, ap length A))
-bits-of {w} L {m} (some {top = top} {bottom = bottom} h t u) o O a A =
+canonical-bits-of L (none h) o O a A = λ i l. absurd (omega (arith, ap length A))
+canonical-bits-of {w} L {m} (some {top = top} {bottom = bottom} h t u) o O a A =
     let S = A .settled in
     subst Bits (sym (A .in-sequence))
     (bits-append (A .input) _ (S .input-bits)
-      (bits-append (A .top) _ (bits-of L t _ (top-permutation L m (omega arith) o O (A .input) (S .input-count) (S .apart)) (A .top) (A .in-top))
+      (bits-append (A .top) _ (canonical-bits-of L t _ (top-permutation L m (omega arith) o O (A .input) (S .input-count) (S .apart)) (A .top) (A .in-top))
         (bits-append (A .bottom) (A .output)
-          (bits-of L u _ (bottom-permutation L m (omega arith) o O (A .input) (S .input-count) (S .apart)) (A .bottom) (A .in-bottom))
+          (canonical-bits-of L u _ (bottom-permutation L m (omega arith) o O (A .input) (S .input-count) (S .apart)) (A .bottom) (A .in-bottom))
           (output-bits L m h o O (A .input) (A .output) S))))
 
 pub canonical-bits : {w : Wiring} → Lawful w → (n : ℕ) (o : List ℕ) → IsPermutation n o
     → (a : List ℕ) → Canonical w (network n) o a → Bits a
-canonical-bits L n o O = bits-of L (sized n) o O
+canonical-bits L n o O = canonical-bits-of L (sized n) o O
 
--- so the witness is the canonical setting
-pub canonical-is : {w : Wiring} → Lawful w → (n : ℕ) (o : List ℕ) → IsPermutation n o
-    → (a : List ℕ) → Canonical w (network n) o a → a ≡ setting w (network n) o
-canonical-is {w} L n o O a A = canonical-unique L n o O a (setting w (network n) o) A (canonical-exists L n o O)
+-- exactly one setting of each order obeys the rule
+pub exactly-one : {w : Wiring} → Lawful w → (n : ℕ) (o : List ℕ) → IsPermutation n o → ExactlyOne w n o
+exactly-one {w} L n o O =
+    record {
+      setting = setting w (network n) o;
+      canonical = canonical-exists L n o O;
+      only = λ bits C. canonical-unique L n o O bits (setting w (network n) o) C (canonical-exists L n o O)
+    }

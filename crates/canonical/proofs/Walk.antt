@@ -13,7 +13,7 @@ use lib.Seq.{getD-set-same, getD-set-other}
 use lib.Dec.{eqb, ltb}
 use Rattle.network.specs.Wiring.{Side}
 use Rattle.canonical.specs.Rule.{Bits}
-use Rattle.canonical.proofs.Sides.{other}
+use Rattle.canonical.proofs.Sides.{bitAt, bit-is, bit-below, other}
 use Rattle.canonical.proofs.Rings.{Matching}
 use Rattle.canonical.proofs.Marks.{lowest, lowest-is}
 use Rattle.canonical.proofs.Round.{Stage, Begun, Round, Done}
@@ -28,10 +28,6 @@ pub record Walk : Type 0 where
   pub bits : List ℕ
   pub f : Side
   pub c : Side
-
--- bit i of a list is 1
-abbrev pub bitAt : List ℕ → ℕ → Bool
-bitAt bits i = eqb (getD bits i 0) 1
 
 abbrev pub stage : Walk → Stage
 stage x = record { mark = λ i. getD (x .marks) i false; bit = bitAt (x .bits); f = x .f; c = x .c }
@@ -91,14 +87,6 @@ pub record Lengths (k : ℕ) (x : Walk) : Type 0 where
   pub of-bits : suc (length (x .bits)) ≡ k
   pub are-bits : Bits (x .bits)
 
-bit-of : (t : Bool) → eqb (cond t 0 1) 1 ≡ not t
-bit-of true = refl
-bit-of false = refl
-
-bit-below : (t : Bool) → cond t 0 1 < 2
-bit-below true = omega arith
-bit-below false = omega arith
-
 set-bits : (bits : List ℕ) (i : ℕ) (t : Bool) → Bits bits → Bits (set bits i (cond t 0 1))
 unfolding Bits
 set-bits bits i t B j l = go (ℕ-discrete j i)
@@ -130,7 +118,7 @@ module _ (k : ℕ) (mate : Side → Side) (x : Walk) (Z : Lengths k x) where
         record {
           mark-new = getD-set-same (x .marks) (s .0) true false (omega (arith, Z));
           mark-old = λ j _ d. getD-set-other (x .marks) (s .0) j true false d;
-          bit-new = λ h. ap (λ b. eqb b 1) (getD-set-same (x .bits) (s .0) bit 0 (omega (arith, Z))) ∙ bit-of (s .1);
+          bit-new = λ h. ap (λ b. eqb b 1) (getD-set-same (x .bits) (s .0) bit 0 (omega (arith, Z))) ∙ bit-is (s .1);
           bit-last = λ j e. ap (λ b. eqb b 1)
             (List·getD-eq-default (set (x .bits) (s .0) bit) 0 {n = j} (rw length-set (omega (arith, Z)))
               ∙ sym (List·getD-eq-default (x .bits) 0 {n = j} (omega (arith, Z))));

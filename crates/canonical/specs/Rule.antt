@@ -9,7 +9,7 @@ use lib.Dec.{eqb}
 use lib.ListN.{length, getD}
 use Rattle.counts.specs.Counts.{up}
 use Rattle.network.specs.Wiring.{Wiring, Side}
-use Rattle.network.specs.Network.{Network, wires, split, down}
+use Rattle.network.specs.Network.{Network, wires, split, network, down}
 use Rattle.permutation.specs.Permutations.{tabulate}
 
 -- Places and values of a network of k pairs are named alike, by their pair and side. The value that place p holds: for an
@@ -94,3 +94,9 @@ pub record SettledWith (w : Wiring) (m : ℕ) (Top Bottom : List ℕ → List �
 unfoldable pub Canonical : Wiring → Network → List ℕ → List ℕ → Type 0
 Canonical w wires o bits = bits ≡ []
 Canonical w (split m top bottom) o bits = SettledWith w m (Canonical w top) (Canonical w bottom) o bits
+
+-- exactly one setting of an order obeys the rule
+pub record ExactlyOne (w : Wiring) (n : ℕ) (o : List ℕ) : Type 0 where
+  pub setting : List ℕ
+  pub canonical : Canonical w (network n) o setting
+  pub only : (bits : List ℕ) → Canonical w (network n) o bits → bits ≡ setting
