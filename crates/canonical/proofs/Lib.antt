@@ -10,6 +10,7 @@ pub mod Held
 pub mod Halves
 pub mod Setting
 pub mod Only
+pub mod Through
 pub mod Carry
 pub mod Steps
 pub mod Cases

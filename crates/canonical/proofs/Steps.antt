@@ -79,3 +79,17 @@ module _
           on-top (mate w k o p) false (mate-below L k m f o O p h) (mate-holds L k m f o O p h ∙ ap other e)
             (proper L m some o O input count A p h ∙ ap not t)
           ∙ sym (ap (λ u. cond u 0 1) t)
+
+-- two places: there is no input bit, and steps 1 to 4 are not done
+pub two-settled : {w : Wiring} → Lawful w → (o : List ℕ) → IsPermutation 2 o → (output : List ℕ)
+    → length output ≡ 1 → Finished w 2 o [] output → Settled w 2 o [] output
+two-settled L o O output n F =
+    let S = walk-settles L 2 (omega arith) o O in
+    record {
+      input-count = refl;
+      output-count = n;
+      input-bits = S .input-bits;
+      apart = S .apart;
+      lowest-straight = S .lowest-straight;
+      finished = F
+    }
