@@ -12,5 +12,6 @@ pub mod Setting
 pub mod Only
 pub mod Through
 pub mod Carry
+pub mod Carrying
 pub mod Steps
 pub mod Cases
