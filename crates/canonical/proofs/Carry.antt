@@ -35,37 +35,37 @@ module _
     (tops : (i : ℕ) → i < up m → f i ≡ getD (orderOfHalf w (up m) o input false (up m)) i 0)
     (bottoms : (i : ℕ) → i < down m → g i ≡ getD (orderOfHalf w (up m) o input true (down m)) i 0)
   where
-  abbrev k : ℕ
-  k = up m
+    abbrev k : ℕ
+    k = up m
 
-  -- the half takes an item to the pair of its value
-  in-half : (p : Side) (t : Bool) → p .0 < up m → (t ≡ true → p .0 < down m) → half input p ≡ t
-      → cond t (g (p .0)) (f (p .0)) ≡ held w (up m) o p .0
-  in-half p t l h e = enter t h ∙ ap (λ (r : Side). held w k o r .0) (ap (λ t. feeder input t (p .0)) (sym e) ∙ feeder-of input p)
-    where
-      enter : (t : Bool) → (t ≡ true → p .0 < down m) → cond t (g (p .0)) (f (p .0)) ≡ held w k o (feeder input t (p .0)) .0
-      enter false h = tops (p .0) l ∙ half-at w k o input false k (p .0) l
-      enter true h = bottoms (p .0) (h refl) ∙ half-at w k o input true (down m) (p .0) (h refl)
+    -- the half takes an item to the pair of its value
+    in-half : (p : Side) (t : Bool) → p .0 < up m → (t ≡ true → p .0 < down m) → half input p ≡ t
+        → cond t (g (p .0)) (f (p .0)) ≡ held w (up m) o p .0
+    in-half p t l h e = enter t h ∙ ap (λ (r : Side). held w k o r .0) (ap (λ t. feeder input t (p .0)) (sym e) ∙ feeder-of input p)
+      where
+        enter : (t : Bool) → (t ≡ true → p .0 < down m) → cond t (g (p .0)) (f (p .0)) ≡ held w k o (feeder input t (p .0)) .0
+        enter false h = tops (p .0) l ∙ half-at w k o input false k (p .0) l
+        enter true h = bottoms (p .0) (h refl) ∙ half-at w k o input true (down m) (p .0) (h refl)
 
-  -- and the output switch to its side
-  leaves-held : (p : Side) → Lies m p → leaves input output f g p ≡ held w (up m) o p
-  unfolding half
-  leaves-held p l =
-      let v = held w k o p in
-      ap (λ j. (j, half output (j, half input p))) (in-half p (half input p) (l .pair) (entered-lies m input (S .input-count) p l .other) refl)
-      ∙ (λ i. (v .0, turn (bitAt output (v .0)) (sym (out-law L m (omega arith) o O input (S .input-count) (S .apart) output (S .output-count) (S .finished) p (l .pair)) i)))
-      ∙ (λ i. (v .0, turn-turn (bitAt output (v .0)) (v .1) i))
+    -- and the output switch to its side
+    leaves-held : (p : Side) → Lies m p → leaves input output f g p ≡ held w (up m) o p
+    unfolding half
+    leaves-held p l =
+        let v = held w k o p in
+        ap (λ j. (j, half output (j, half input p))) (in-half p (half input p) (l .pair) (entered-lies m input (S .input-count) p l .other) refl)
+        ∙ (λ i. (v .0, turn (bitAt output (v .0)) (sym (out-law L m (omega arith) o O input (S .input-count) (S .apart) output (S .output-count) (S .finished) p (l .pair)) i)))
+        ∙ (λ i. (v .0, turn-turn (bitAt output (v .0)) (v .1) i))
 
-  level : (q : ℕ) → q < m
-      → through w (up m) (crosses (up m - 1) (input ++ rest)) (inHalves f g) (crosses (down m) (output ++ tail)) q ≡ getD o q 0
-  level q h =
-      let p : Side = w .dec k q in
-      let l = below-lies L m q h in
-      through-leaves input output f g w m rest tail (S .input-count) (S .output-count) q
-      ∙ ap (w .enc k) (leaves-held p l)
-      ∙ held-at L k m (fits L m (omega arith) o O) o O p (l .pair)
-      ∙ ap (λ r. getD o r r) (L .enc-dec k q (omega arith))
-      ∙ entry-in m o O q h
+    level : (q : ℕ) → q < m
+        → through w (up m) (crosses (up m - 1) (input ++ rest)) (inHalves f g) (crosses (down m) (output ++ tail)) q ≡ getD o q 0
+    level q h =
+        let p : Side = w .dec k q in
+        let l = below-lies L m q h in
+        through-leaves input output f g w m rest tail (S .input-count) (S .output-count) q
+        ∙ ap (w .enc k) (leaves-held p l)
+        ∙ held-at L k m (fits L m (omega arith) o O) o O p (l .pair)
+        ∙ ap (λ r. getD o r r) (L .enc-dec k q (omega arith))
+        ∙ entry-in m o O q h
 
 -- ---- all networks
 
@@ -87,12 +87,12 @@ canonical-carries-of {w} L {m} (some {top = top} {bottom = bottom} two t u) o O 
       drop-at (C .bottom) afterBottom (switchCount bottom) (canonical-count w bottom _ (C .bottom) (C .in-bottom)),
     )
     (level L m two o O (C .input) (C .output) afterInput rest S
-      (goesTo w top afterInput)
-      (goesTo w bottom afterTop)
-      (canonical-carries-of L t _ (top-permutation L m (omega arith) o O (C .input) (S .input-count) (S .apart)) (C .top) afterTop (C .in-top))
-      (canonical-carries-of L u _ (bottom-permutation L m (omega arith) o O (C .input) (S .input-count) (S .apart)) (C .bottom) afterBottom (C .in-bottom))
-      q
-      h)
+    (goesTo w top afterInput)
+    (goesTo w bottom afterTop)
+    (canonical-carries-of L t _ (top-permutation L m (omega arith) o O (C .input) (S .input-count) (S .apart)) (C .top) afterTop (C .in-top))
+    (canonical-carries-of L u _ (bottom-permutation L m (omega arith) o O (C .input) (S .input-count) (S .apart)) (C .bottom) afterBottom (C .in-bottom))
+    q
+    h)
 
 module _ {w : Wiring} (L : Lawful w) (n : ℕ) (o : List ℕ) (O : IsPermutation n o) (bits : List ℕ) (C : Canonical w (network n) o bits) where
   -- the order of the canonical setting of an order is that order
@@ -100,10 +100,10 @@ module _ {w : Wiring} (L : Lawful w) (n : ℕ) (o : List ℕ) (O : IsPermutation
   canonical-order =
       ext-getD 0 (orderOf w n bits) o (length-order L n bits ∙ sym (O .whole))
       (λ i l.
-        let h : i < n = omega (arith, length-order L n bits) in
-        order-at L n bits i h
-        ∙ ap (λ b. goesTo w (network n) b i) (sym (append-nil bits))
-        ∙ canonical-carries-of L (sized n) o O bits [] C i h)
+      let h : i < n = omega (arith, length-order L n bits) in
+      order-at L n bits i h
+      ∙ ap (λ b. goesTo w (network n) b i) (sym (append-nil bits))
+      ∙ canonical-carries-of L (sized n) o O bits [] C i h)
 
   module _ {A : Type 0} (d : A) (xs : List A) (long : length xs ≡ n) where
     pub canonical-carries : Carries d w n o bits xs

@@ -73,10 +73,11 @@ hold : (xs : List Case) → map entriesGood xs ≡ map places xs → map found x
 hold [] p q = tt
 hold (x ∷ xs) p q =
     let good : firstBadEntry (x .order) ≡ length (x .order) = cc in
-    let set : setting paper (network (length (x .order))) (x .order) ≡ x .bits = cc in
-    (subst (Canonical paper (network (length (x .order))) (x .order)) set
-      (canonical-exists paper-lawful (length (x .order)) (x .order) (passes-permutation (x .order) good)),
-      hold xs (cc) (cc))
+    let set : setting paper (network (length (x .order))) (x .order) ≡ x .bits = cc in (
+      subst (Canonical paper (network (length (x .order))) (x .order)) set
+          (canonical-exists paper-lawful (length (x .order)) (x .order) (passes-permutation (x .order) good)),
+      hold xs (cc) (cc),
+    )
 
 pub cases-hold : Holds cases
 unfolding firstBadFrom howMany goodEntry network networkIn tabulate held half orderOfHalf lowest placeFor seat mate outputs setting

@@ -59,7 +59,7 @@ module _ {w : Wiring} (L : Lawful w) (m : ℕ) (some : 0 < m) (o : List ℕ) (O 
       let at : w .enc k (j, true) ≡ j + k = subst (λ n. w .enc n (j, true) ≡ j + n) last (L .enc-last j) in
       record {
         last = last;
-        holds-itself = ap (w .dec k) (entry-past m o O (w .enc k (j, true)) (omega (arith, at))) ∙ L .dec-enc k (j, true) l
+        holds-itself = ap (w .dec k) (entry-past m o O (w .enc k (j, true)) (omega (arith, at))) ∙ L .dec-enc k (j, true) l;
       }
 
   module _ (input : List ℕ) (count : length input ≡ up m - 1) (A : Apart w (up m) o input) where
@@ -84,8 +84,8 @@ module _ {w : Wiring} (L : Lawful w) (m : ℕ) (some : 0 < m) (o : List ℕ) (O 
         go (no s) =
             absurd
             (A (feeder input t i) (feeder input t j)
-              (record { first-below = l; second-below = h; one-pair = e; two-sides = s })
-              (feeder-enters input t i ∙ sym (feeder-enters input t j)))
+            (record { first-below = l; second-below = h; one-pair = e; two-sides = s })
+            (feeder-enters input t i ∙ sym (feeder-enters input t j)))
 
     half-permutation : (t : Bool) (c : ℕ) → c ≤ up m
         → ((i : ℕ) → i < c → held w (up m) o (feeder input t i) .0 < c)
@@ -94,7 +94,7 @@ module _ {w : Wiring} (L : Lawful w) (m : ℕ) (some : 0 < m) (o : List ℕ) (O 
         record {
           whole = length-half w k o input t c;
           below = λ i l. rw (half-at w k o input t c i l) (below i l);
-          unlike = λ i j l g e. unlike-in-half t i j (omega arith) (omega arith) (sym (half-at w k o input t c i l) ∙ e ∙ half-at w k o input t c j g)
+          unlike = λ i j l g e. unlike-in-half t i j (omega arith) (omega arith) (sym (half-at w k o input t c i l) ∙ e ∙ half-at w k o input t c j g);
         }
 
     pub top-permutation : IsPermutation (up m) (orderOfHalf w (up m) o input false (up m))
@@ -108,14 +108,16 @@ module _ {w : Wiring} (L : Lawful w) (m : ℕ) (some : 0 < m) (o : List ℕ) (O 
           where
             j : ℕ
             j = held w k o (feeder input true i) .0
+
             j-below : j < k
             j-below = held-below L k m fits o O (feeder input true i) (omega arith)
+
             go : Dec (j < down m) → j < down m
             go (yes x) = x
             go (no x) =
                 let I = imagined j (omega arith) j-below in
                 let itself : held w k o (feeder input true j) ≡ (j, true) =
-                    ap (λ s. held w k o (j, s)) (last-enters j true (I .last)) ∙ I .holds-itself in
+                ap (λ s. held w k o (j, s)) (last-enters j true (I .last)) ∙ I .holds-itself in
                 absurd
                 (omega (arith, unlike-in-half true i j (omega arith) j-below (sym (ap (λ (p : Side). p .0) itself)), I .last))
 
@@ -135,6 +137,7 @@ module _ {w : Wiring} (L : Lawful w) (m : ℕ) (some : 0 < m) (o : List ℕ) (O 
         where
           same : held w k o p .1 ≡ true → half input q ≡ half input p
           same s = ap (half input) (held-unlike L k m fits o O q p h l (e ∙ (λ i. (held w k o p .0, sym s i))))
+
           opposite : held w k o p .1 ≡ false → half input q ≡ not (half input p)
           opposite s =
               ap (half input) (mate-only L k m fits o O p q l h (e ∙ (λ i. (held w k o p .0, sym (ap not s) i))))
@@ -147,10 +150,13 @@ module _ {w : Wiring} (L : Lawful w) (m : ℕ) (some : 0 < m) (o : List ℕ) (O 
         where
           j : ℕ
           j = held w k o p .0
+
           j-below : j < k
           j-below = held-below L k m fits o O p l
+
           q : Side
           q = seat w k o (j, true)
+
           go : Dec (j < down m) → half output (held w k o p) ≡ half input p
           go (yes x) =
               let h = seat-below L k m fits o O (j, true) j-below in

@@ -126,7 +126,7 @@ module _ {w : Wiring} (L : Lawful w) (k m : ℕ) (fits : m ≤ k + k) (o : List 
       record {
         below = mate-below;
         twice = λ p l. sym (mate-only (mate w k o p) p (mate-below p l) l (sym (ap other (mate-holds p l) ∙ other-other (held w k o p))));
-        moves = λ p l e. other-unlike (held w k o p) (sym (mate-holds p l) ∙ ap (held w k o) e)
+        moves = λ p l e. other-unlike (held w k o p) (sym (mate-holds p l) ∙ ap (held w k o) e);
       }
 
   -- ---- the rule's words
@@ -138,7 +138,7 @@ module _ {w : Wiring} (L : Lawful w) (k m : ℕ) (fits : m ≤ k + k) (o : List 
         first-below = l;
         second-below = mate-below p l;
         one-pair = sym (ap (λ (v : Side). v .0) e);
-        two-sides = λ q. not-self (held w k o p .1) (sym (q ∙ ap (λ (v : Side). v .1) e))
+        two-sides = λ q. not-self (held w k o p .1) (sym (q ∙ ap (λ (v : Side). v .1) e));
       }
 
   pub is-mate : {p q : Side} → HoldAssociates w k o p q → q ≡ mate w k o p
@@ -195,5 +195,5 @@ module _ {w : Wiring} (L : Lawful w) (k m : ℕ) (fits : m ≤ k + k) (o : List 
           record {
             last-straight = λ i e. bitAt-past input i (omega arith);
             lowest-straight = λ i l lowest apart.
-              ap (λ b. eqb b 1) (R i l (λ r. apart (k - 1) (omega arith) (ring-chain r)) (λ j r. lowest j (ring-below r l) (ring-chain r)))
+                ap (λ b. eqb b 1) (R i l (λ r. apart (k - 1) (omega arith) (ring-chain r)) (λ j r. lowest j (ring-below r l) (ring-chain r)));
           }

@@ -31,7 +31,7 @@ canonical-count w (split m top bottom) o bits C =
     let S = C .settled in
     ap length (C .in-sequence)
     ∙ simp length-append
-      (omega (arith, S .input-count, S .output-count, canonical-count w top _ (C .top) (C .in-top), canonical-count w bottom _ (C .bottom) (C .in-bottom)))
+    (omega (arith, S .input-count, S .output-count, canonical-count w top _ (C .top) (C .in-top), canonical-count w bottom _ (C .bottom) (C .in-bottom)))
 
 pub canonical-length : (w : Wiring) (n : ℕ) (o bits : List ℕ) → Canonical w (network n) o bits → length bits ≡ W n
 canonical-length w n o bits C = canonical-count w (network n) o bits C ∙ count-is n
@@ -70,13 +70,13 @@ module _ {w : Wiring} (L : Lawful w) (m : ℕ) (two : 2 ≤ m) (o : List ℕ) (O
       let lc = C .input-count in
       ext-getD 0 a c (la ∙ sym lc)
       (λ i l. same-bit (getD a i 0) (getD c i 0) (A .input-bits i l) (C .input-bits i (omega arith))
-        (unique k (mate w k o) (matching L k m f o O) (bitAt a) (bitAt c)
-          (apart-proper L k m f o O a (A .apart))
-          (apart-proper L k m f o O c (C .apart))
-          (lowest-ruled L k m f o O a (omega arith) (A .input-bits) (A .lowest-straight))
-          (lowest-ruled L k m f o O c (omega arith) (C .input-bits) (C .lowest-straight))
-          i
-          (omega arith)))
+      (unique k (mate w k o) (matching L k m f o O) (bitAt a) (bitAt c)
+      (apart-proper L k m f o O a (A .apart))
+      (apart-proper L k m f o O c (C .apart))
+      (lowest-ruled L k m f o O a (omega arith) (A .input-bits) (A .lowest-straight))
+      (lowest-ruled L k m f o O c (omega arith) (C .input-bits) (C .lowest-straight))
+      i
+      (omega arith)))
 
   -- and so are its output bits
   output-at : (a b : List ℕ) → Settled w m o a b → (j : ℕ) → j < down m
@@ -105,31 +105,35 @@ module _ {w : Wiring} (L : Lawful w) (m : ℕ) (two : 2 ≤ m) (o : List ℕ) (O
       (one-top : (q : List ℕ) → IsPermutation (up m) q → (a b : List ℕ) → Top q a → Top q b → a ≡ b)
       (one-bottom : (q : List ℕ) → IsPermutation (down m) q → (a b : List ℕ) → Bottom q a → Bottom q b → a ≡ b)
     where
-    same-with : (a b : List ℕ) → SettledWith w m Top Bottom o a → SettledWith w m Top Bottom o b → a ≡ b
-    same-with a b A B = A .in-sequence ∙ rw (input, tops, bottoms, output) refl ∙ sym (B .in-sequence)
-      where
-        input : A .input ≡ B .input
-        input = same-input (A .input) (A .output) (B .input) (B .output) (A .settled) (B .settled)
-        S : Settled w m o (B .input) (A .output)
-        S = subst (λ i. Settled w m o i (A .output)) input (A .settled)
-        tops : A .top ≡ B .top
-        tops =
-            one-top (orderOfHalf w (up m) o (B .input) false (up m))
-            (top-permutation L m (omega arith) o O (B .input) (S .input-count) (S .apart))
-            (A .top)
-            (B .top)
-            (subst (λ i. Top (orderOfHalf w (up m) o i false (up m)) (A .top)) input (A .in-top))
-            (B .in-top)
-        bottoms : A .bottom ≡ B .bottom
-        bottoms =
-            one-bottom (orderOfHalf w (up m) o (B .input) true (down m))
-            (bottom-permutation L m (omega arith) o O (B .input) (S .input-count) (S .apart))
-            (A .bottom)
-            (B .bottom)
-            (subst (λ i. Bottom (orderOfHalf w (up m) o i true (down m)) (A .bottom)) input (A .in-bottom))
-            (B .in-bottom)
-        output : A .output ≡ B .output
-        output = same-output (B .input) (A .output) (B .output) S (B .settled)
+      same-with : (a b : List ℕ) → SettledWith w m Top Bottom o a → SettledWith w m Top Bottom o b → a ≡ b
+      same-with a b A B = A .in-sequence ∙ rw (input, tops, bottoms, output) refl ∙ sym (B .in-sequence)
+        where
+          input : A .input ≡ B .input
+          input = same-input (A .input) (A .output) (B .input) (B .output) (A .settled) (B .settled)
+
+          S : Settled w m o (B .input) (A .output)
+          S = subst (λ i. Settled w m o i (A .output)) input (A .settled)
+
+          tops : A .top ≡ B .top
+          tops =
+              one-top (orderOfHalf w (up m) o (B .input) false (up m))
+              (top-permutation L m (omega arith) o O (B .input) (S .input-count) (S .apart))
+              (A .top)
+              (B .top)
+              (subst (λ i. Top (orderOfHalf w (up m) o i false (up m)) (A .top)) input (A .in-top))
+              (B .in-top)
+
+          bottoms : A .bottom ≡ B .bottom
+          bottoms =
+              one-bottom (orderOfHalf w (up m) o (B .input) true (down m))
+              (bottom-permutation L m (omega arith) o O (B .input) (S .input-count) (S .apart))
+              (A .bottom)
+              (B .bottom)
+              (subst (λ i. Bottom (orderOfHalf w (up m) o i true (down m)) (A .bottom)) input (A .in-bottom))
+              (B .in-bottom)
+
+          output : A .output ≡ B .output
+          output = same-output (B .input) (A .output) (B .output) S (B .settled)
 
 -- ---- all networks
 
@@ -153,10 +157,10 @@ canonical-bits-of {w} L {m} (some {top = top} {bottom = bottom} h t u) o O a A =
     let S = A .settled in
     subst Bits (sym (A .in-sequence))
     (bits-append (A .input) _ (S .input-bits)
-      (bits-append (A .top) _ (canonical-bits-of L t _ (top-permutation L m (omega arith) o O (A .input) (S .input-count) (S .apart)) (A .top) (A .in-top))
-        (bits-append (A .bottom) (A .output)
-          (canonical-bits-of L u _ (bottom-permutation L m (omega arith) o O (A .input) (S .input-count) (S .apart)) (A .bottom) (A .in-bottom))
-          (output-bits L m h o O (A .input) (A .output) S))))
+    (bits-append (A .top) _ (canonical-bits-of L t _ (top-permutation L m (omega arith) o O (A .input) (S .input-count) (S .apart)) (A .top) (A .in-top))
+    (bits-append (A .bottom) (A .output)
+    (canonical-bits-of L u _ (bottom-permutation L m (omega arith) o O (A .input) (S .input-count) (S .apart)) (A .bottom) (A .in-bottom))
+    (output-bits L m h o O (A .input) (A .output) S))))
 
 pub canonical-bits : {w : Wiring} → Lawful w → (n : ℕ) (o : List ℕ) → IsPermutation n o
     → (a : List ℕ) → Canonical w (network n) o a → Bits a
@@ -168,5 +172,5 @@ exactly-one {w} L n o O =
     record {
       setting = setting w (network n) o;
       canonical = canonical-exists L n o O;
-      only = λ bits C. canonical-unique L n o O bits (setting w (network n) o) C (canonical-exists L n o O)
+      only = λ bits C. canonical-unique L n o O bits (setting w (network n) o) C (canonical-exists L n o O);
     }

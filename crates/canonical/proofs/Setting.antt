@@ -32,7 +32,7 @@ setting w (split m top bottom) o =
     let input = walk k k (mate w k o) .bits in
     input
     ++ (setting w top (orderOfHalf w k o input false k)
-      ++ (setting w bottom (orderOfHalf w k o input true (down m)) ++ outputs w m o input))
+    ++ (setting w bottom (orderOfHalf w k o input true (down m)) ++ outputs w m o input))
 
 module _ {w : Wiring} (L : Lawful w) (m : ℕ) (two : 2 ≤ m) (o : List ℕ) (O : IsPermutation m o) where
   -- what k rounds of any walk leave settles the input bits of a network
@@ -40,31 +40,31 @@ module _ {w : Wiring} (L : Lawful w) (m : ℕ) (two : 2 ≤ m) (o : List ℕ) (O
       (x : Stage) (D : Done (up m) (mate w (up m) o) x) (input : List ℕ)
       (count : length input ≡ up m - 1) (B : Bits input) (same : (i : ℕ) → i < up m → x .bit i ≡ bitAt input i)
     where
-    abbrev k : ℕ
-    k = up m
+      abbrev k : ℕ
+      k = up m
 
-    pub done-apart : Apart w (up m) o input
-    done-apart =
-        let f = fits L m (omega arith) o O in
-        proper-apart L k m f o O input
-        (proper-same k (mate w k o) (x .bit) (bitAt input) same (matching L k m f o O) (done-proper k (mate w k o) x D))
+      pub done-apart : Apart w (up m) o input
+      done-apart =
+          let f = fits L m (omega arith) o O in
+          proper-apart L k m f o O input
+          (proper-same k (mate w k o) (x .bit) (bitAt input) same (matching L k m f o O) (done-proper k (mate w k o) x D))
 
-    pub done-lowest : LowestStraight w (up m) o input
-    done-lowest =
-        ruled-lowest L k m (fits L m (omega arith) o O) o O input (omega arith) B
-        (ruled-same k (mate w k o) (x .bit) (bitAt input) same (done-ruled k (mate w k o) x D))
+      pub done-lowest : LowestStraight w (up m) o input
+      done-lowest =
+          ruled-lowest L k m (fits L m (omega arith) o O) o O input (omega arith) B
+          (ruled-same k (mate w k o) (x .bit) (bitAt input) same (done-ruled k (mate w k o) x D))
 
-    -- and with the output bits all of it
-    pub done-settled : (output : List ℕ) → length output ≡ down m → Finished w m o input output → Settled w m o input output
-    done-settled output n F =
-        record {
-          input-count = count;
-          output-count = n;
-          input-bits = B;
-          apart = done-apart;
-          lowest-straight = done-lowest;
-          finished = F
-        }
+      -- and with the output bits all of it
+      pub done-settled : (output : List ℕ) → length output ≡ down m → Finished w m o input output → Settled w m o input output
+      done-settled output n F =
+          record {
+            input-count = count;
+            output-count = n;
+            input-bits = B;
+            apart = done-apart;
+            lowest-straight = done-lowest;
+            finished = F;
+          }
 
   pub outputs-finish : (input : List ℕ) → Finished w m o input (outputs w m o input)
   unfolding Finished outputs
@@ -72,8 +72,8 @@ module _ {w : Wiring} (L : Lawful w) (m : ℕ) (two : 2 ≤ m) (o : List ℕ) (O
       let k = up m in
       let f = fits L m (omega arith) o O in
       let there : seat w k o (j, true) ≡ p =
-          held-unlike L k m f o O (seat w k o (j, true)) p (seat-below L k m f o O (j, true) (omega arith)) h
-          (seat-holds L k m f o O (j, true) (omega arith) ∙ sym e) in
+      held-unlike L k m f o O (seat w k o (j, true)) p (seat-below L k m f o O (j, true) (omega arith)) h
+      (seat-holds L k m f o O (j, true) (omega arith) ∙ sym e) in
       tabulate-at (λ j. cond (half input (seat w k o (j, true))) 0 1) (down m) j l
       ∙ ap (λ q. cond (half input q) 0 1) there
 
@@ -107,7 +107,7 @@ canonical-exists-of {w} L {m} (some {top = top} {bottom = bottom} h t u) o O =
       in-sequence = refl;
       settled = S;
       in-top = canonical-exists-of L t (orderOfHalf w k o input false k) (top-permutation L m (omega arith) o O input (S .input-count) (S .apart));
-      in-bottom = canonical-exists-of L u (orderOfHalf w k o input true (down m)) (bottom-permutation L m (omega arith) o O input (S .input-count) (S .apart))
+      in-bottom = canonical-exists-of L u (orderOfHalf w k o input true (down m)) (bottom-permutation L m (omega arith) o O input (S .input-count) (S .apart));
     }
 
 -- every order has a canonical setting

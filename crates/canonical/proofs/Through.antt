@@ -55,7 +55,7 @@ module _ (input output : List ℕ) (f g : ℕ → ℕ) where
   pub through-leaves :
       (w : Wiring) (m : ℕ) (rest tail : List ℕ) → length input ≡ up m - 1 → length output ≡ down m → (q : ℕ)
       → through w (up m) (crosses (up m - 1) (input ++ rest)) (inHalves f g) (crosses (down m) (output ++ tail)) q
-        ≡ w .enc (up m) (leaves (w .dec (up m) q))
+      ≡ w .enc (up m) (leaves (w .dec (up m) q))
   through-leaves w m rest tail i o q =
       let k = up m in
       let p : Side = w .dec k q in
