@@ -2,27 +2,25 @@
 -- Assumes nothing.
 use mathlib.Core.Path.{_≡_, refl, sym, ap, _∙_, subst}
 use mathlib.Core.Bool.{Bool, true, false, cond}
-use mathlib.Core.List.{List, [], _∷_, _++_, append-assoc, append-nil}
-use Prim.Native.Nat.{ℕ, zero, suc, _+_, _-_, _≤_, _<_}
+use mathlib.Core.List.{List, [], _++_, append-assoc, append-nil}
+use Prim.Native.Nat.{ℕ, _-_, _≤_, _<_}
 use native.Mathlib.Omega.{arith}
-use native.Mathlib.Decide.{decLt}
-use lib.ListN.{length, getD, drop, List·getD-append, List·getD-eq-default}
+use lib.ListN.{length, getD}
 use lib.Seq.{ext-getD, drop-at}
-use lib.Dec.{eqb}
 use Rattle.counts.specs.Counts.{up}
 use Rattle.network.specs.Wiring.{Wiring, Lawful, Side}
-use Rattle.network.specs.Network.{Network, wires, split, network, switchCount, down}
+use Rattle.network.specs.Network.{Network, network, switchCount, down}
 use Rattle.network.specs.Move.{forward, backward}
 use Rattle.network.specs.Blocks.{orderOf}
 use Rattle.network.proofs.Shape.{Sized, none, some, sized}
 use Rattle.network.proofs.Places.{Lies, crosses, below-lies}
-use Rattle.network.proofs.Where.{goesTo, across, through, inHalves, topBits, bottomBits, outputBits}
+use Rattle.network.proofs.Where.{goesTo, across, through, inHalves}
 use Rattle.network.proofs.Order.{length-order, order-at, order-forward, order-backward}
 use Rattle.permutation.specs.Permutations.{IsPermutation}
-use Rattle.canonical.specs.Rule.{held, half, orderOfHalf, Settled, SettledWith, Canonical}
+use Rattle.canonical.specs.Rule.{held, half, orderOfHalf, Settled, Canonical}
 use Rattle.canonical.specs.Carry.{Carries, BringsHome}
 use Rattle.canonical.proofs.Sides.{bitAt, turn, turn-turn}
-use Rattle.canonical.proofs.Held.{entry-in, held-below, held-at}
+use Rattle.canonical.proofs.Held.{entry-in, held-at}
 use Rattle.canonical.proofs.Halves.{feeder, feeder-of, half-at, fits, top-permutation, bottom-permutation, out-law}
 use Rattle.canonical.proofs.Through.{entered-lies, leaves, through-leaves}
 use Rattle.canonical.proofs.Only.{canonical-count}

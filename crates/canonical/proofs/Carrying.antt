@@ -2,10 +2,9 @@
 -- setting of that order. So 'associates enter different halves and output switches finish the work' is what carrying means.
 -- Assumes nothing.
 use mathlib.Core.Path.{_≡_, refl, sym, ap, _∙_, subst}
-use mathlib.Core.Logic.{_≢_, _⊎_, inl, inr}
 use mathlib.Core.Bool.{Bool, true, false, not, cond}
-use mathlib.Core.List.{List, [], _∷_, _++_, append-assoc, append-nil}
-use Prim.Native.Nat.{ℕ, zero, suc, _+_, _-_, _≤_, _<_}
+use mathlib.Core.List.{List, [], _++_, append-assoc, append-nil}
+use Prim.Native.Nat.{ℕ, suc, _-_, _≤_, _<_}
 use native.Mathlib.Omega.{arith}
 use native.Mathlib.Decide.{decLt}
 use borrow.Author.Tests.{eqb-true, eqb-false}
@@ -21,10 +20,11 @@ use Rattle.network.proofs.Places.{Lies, lies-top, lies-both, lies-below, crosse
 use Rattle.network.proofs.Where.{goesTo, across, across-below, through, inHalves, input, output}
 use Rattle.network.proofs.Order.{order-at}
 use Rattle.permutation.specs.Permutations.{IsPermutation}
-use Rattle.canonical.specs.Rule.{held, half, HoldAssociates, Apart, LowestStraight, Finished, orderOfHalf, Bits, Settled, Canonical}
+use Rattle.canonical.specs.Rule.{held, half, Apart, LowestStraight, Finished, orderOfHalf, Bits, Canonical}
 use Rattle.canonical.proofs.Sides.{bitAt, bitAt-past, turn}
 use Rattle.canonical.proofs.Held.{entry-in}
-use Rattle.canonical.proofs.Halves.{feeder, feeder-enters, half-at, imagined, last-enters, top-permutation, bottom-permutation}
+use Rattle.canonical.proofs.Halves.{feeder, feeder-enters, half-at, imagined, top-permutation, bottom-permutation}
+use Rattle.canonical.proofs.Only.{output-bits}
 use Rattle.canonical.proofs.Through.{entered-lies, leavesAt, leaves, through-leaves}
 
 -- the bits of a network in their sequence, with the house rule for its input bits; the halves obey it in their own orders
@@ -210,3 +210,29 @@ carrying-canonical {w} L n o O bits C e =
     ap (λ l. goesTo w (network n) l q) (append-nil bits)
     ∙ sym (order-at L n bits q h)
     ∙ ap (λ l. getD l q 0) e)
+
+-- and so the canonical setting of an order is the one that carries it and obeys the rule
+pub canonical-obeys-of : {w : Wiring} → Lawful w → {m : ℕ} {net : Network} → Sized m net → (o : List ℕ) → IsPermutation m o
+    → (bits : List ℕ) → Canonical w net o bits → Obeys w net o bits
+unfolding Canonical Obeys
+canonical-obeys-of L (none z) o O bits C = C
+canonical-obeys-of {w} L {m} (some two t u) o O bits C =
+    let S = C .settled in
+    record {
+      inputBits = C .input;
+      topBits = C .top;
+      bottomBits = C .bottom;
+      outputBits = C .output;
+      in-sequence = C .in-sequence;
+      input-count = S .input-count;
+      output-count = S .output-count;
+      input-bits = S .input-bits;
+      output-bits = output-bits L m two o O (C .input) (C .output) S;
+      lowest-straight = S .lowest-straight;
+      in-top = canonical-obeys-of L t _ (top-permutation L m (omega arith) o O (C .input) (S .input-count) (S .apart)) (C .top) (C .in-top);
+      in-bottom = canonical-obeys-of L u _ (bottom-permutation L m (omega arith) o O (C .input) (S .input-count) (S .apart)) (C .bottom) (C .in-bottom);
+    }
+
+pub canonical-obeys : {w : Wiring} → Lawful w → (n : ℕ) (o : List ℕ) → IsPermutation n o
+    → (bits : List ℕ) → Canonical w (network n) o bits → Obeys w (network n) o bits
+canonical-obeys L n o O = canonical-obeys-of L (sized n) o O

@@ -1,21 +1,20 @@
 -- The halves of a network whose associates enter different halves: their orders are permutations; and the output switches
 -- turn each item to the side of its value. Assumes nothing.
 use mathlib.Core.Path.{_≡_, refl, sym, ap, _∙_, subst}
-use mathlib.Core.Logic.{_≢_, _⊎_, inl, inr}
-use mathlib.Core.Bool.{Bool, true, false, not, cond, Bool-discrete, Bool·not-not}
-use mathlib.Core.List.{List, [], _∷_}
-use Prim.Native.Nat.{ℕ, zero, suc, _+_, _-_, _≤_, _<_}
+use mathlib.Core.Bool.{Bool, true, false, not, Bool-discrete, Bool·not-not}
+use mathlib.Core.List.{List}
+use Prim.Native.Nat.{ℕ, suc, _+_, _-_, _≤_, _<_}
 use native.Mathlib.Omega.{arith}
-use native.Mathlib.Decide.{ℕ-discrete, decLt}
-use lib.ListN.{length, getD, List·getD-eq-default}
+use native.Mathlib.Decide.{decLt}
+use lib.ListN.{length, getD}
 use lib.Dec.{eqb}
 use Rattle.counts.specs.Counts.{up}
 use Rattle.network.specs.Wiring.{Wiring, Lawful, Side}
 use Rattle.network.specs.Network.{down}
 use Rattle.permutation.specs.Permutations.{IsPermutation}
 use Rattle.permutation.proofs.Tables.{length-tabulate, tabulate-at}
-use Rattle.canonical.specs.Rule.{held, half, HoldAssociates, Apart, Finished, orderOfHalf}
-use Rattle.canonical.proofs.Sides.{bitAt, bit-is, bitAt-past, turn, turn-turn, other, same-pair}
+use Rattle.canonical.specs.Rule.{held, half, Apart, Finished, orderOfHalf}
+use Rattle.canonical.proofs.Sides.{bitAt, bit-is, bitAt-past, turn, turn-turn}
 use Rattle.canonical.proofs.Rings.{Proper}
 use Rattle.canonical.proofs.Held.{entry-past, held-below, held-unlike, seat, seat-below, seat-holds, mate, mate-only, apart-proper}
 

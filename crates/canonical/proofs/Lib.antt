@@ -14,4 +14,5 @@ pub mod Through
 pub mod Carry
 pub mod Carrying
 pub mod Steps
+pub mod Paper
 pub mod Cases

@@ -2,16 +2,16 @@
 -- Assumes nothing.
 use mathlib.Core.Path.{_≡_, refl, sym, ap, _∙_, subst}
 use mathlib.Core.Bool.{Bool, true, false, cond}
-use mathlib.Core.List.{List, [], _∷_, _++_}
-use Prim.Native.Nat.{ℕ, zero, suc, _+_, _-_, _≤_, _<_}
+use mathlib.Core.List.{List, _++_}
+use Prim.Native.Nat.{ℕ, _+_, _-_, _≤_, _<_}
 use native.Mathlib.Omega.{arith}
 use native.Mathlib.Decide.{decLt}
-use borrow.Author.Tests.{eq-eqb, eqb-true, eqb-false}
+use borrow.Author.Tests.{eqb-true, eqb-false}
 use lib.ListN.{length, getD, length-append, List·getD-append}
 use lib.Seq.{ext-getD, getD-append-add}
 use lib.Dec.{eqb}
 use Rattle.counts.specs.Counts.{up, W}
-use Rattle.network.specs.Wiring.{Wiring, Lawful, Side}
+use Rattle.network.specs.Wiring.{Wiring, Lawful}
 use Rattle.network.specs.Network.{Network, wires, split, network, switchCount, down}
 use Rattle.network.proofs.Shape.{Sized, none, some, sized, count-is}
 use Rattle.permutation.specs.Permutations.{IsPermutation}
@@ -93,7 +93,7 @@ module _ {w : Wiring} (L : Lawful w) (m : ℕ) (two : 2 ≤ m) (o : List ℕ) (O
       let ld = C .output-count in
       ext-getD 0 b d (lb ∙ sym ld) (λ j l. output-at a b A j (omega arith) ∙ sym (output-at a d C j (omega arith)))
 
-  output-bits : (a b : List ℕ) → Settled w m o a b → Bits b
+  pub output-bits : (a b : List ℕ) → Settled w m o a b → Bits b
   unfolding Bits
   output-bits a b A j l =
       let lb = A .output-count in

@@ -1,18 +1,18 @@
 -- There is a canonical setting of every permutation: the one that the walk finds in each network.
 -- Assumes nothing.
 use mathlib.Core.Path.{_≡_, refl, sym, ap, _∙_}
-use mathlib.Core.Bool.{Bool, true, false, cond}
-use mathlib.Core.List.{List, [], _∷_, _++_}
-use Prim.Native.Nat.{ℕ, suc, _+_, _-_, _≤_, _<_}
+use mathlib.Core.Bool.{true, false, cond}
+use mathlib.Core.List.{List, [], _++_}
+use Prim.Native.Nat.{ℕ, _-_, _≤_, _<_}
 use native.Mathlib.Omega.{arith}
-use lib.ListN.{length, getD}
+use lib.ListN.{length}
 use Rattle.counts.specs.Counts.{up}
-use Rattle.network.specs.Wiring.{Wiring, Lawful, Side, paper}
+use Rattle.network.specs.Wiring.{Wiring, Lawful}
 use Rattle.network.specs.Network.{Network, wires, split, network, down}
 use Rattle.network.proofs.Shape.{Sized, none, some, sized}
 use Rattle.permutation.specs.Permutations.{IsPermutation, tabulate}
 use Rattle.permutation.proofs.Tables.{length-tabulate, tabulate-at}
-use Rattle.canonical.specs.Rule.{held, half, Apart, LowestStraight, Finished, orderOfHalf, Bits, Settled, SettledWith, Canonical}
+use Rattle.canonical.specs.Rule.{half, Apart, LowestStraight, Finished, orderOfHalf, Bits, Settled, Canonical}
 use Rattle.canonical.proofs.Sides.{bitAt}
 use Rattle.canonical.proofs.Rings.{proper-same, ruled-same}
 use Rattle.canonical.proofs.Round.{Stage, Done}

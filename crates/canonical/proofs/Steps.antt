@@ -3,18 +3,18 @@
 -- 6: what enters the halves, and the output bits, in the words of those steps.
 -- Assumes nothing.
 use mathlib.Core.Path.{_≡_, refl, sym, ap, _∙_}
-use mathlib.Core.Logic.{_≢_, _⊎_, inl, inr}
+use mathlib.Core.Logic.{_⊎_, inl, inr}
 use mathlib.Core.Bool.{Bool, true, false, not, cond}
 use mathlib.Core.List.{List, []}
-use Prim.Native.Nat.{ℕ, suc, _+_, _-_, _≤_, _<_}
+use Prim.Native.Nat.{ℕ, _-_, _≤_, _<_}
 use native.Mathlib.Omega.{arith}
 use lib.ListN.{length, getD}
 use Rattle.counts.specs.Counts.{up}
 use Rattle.network.specs.Wiring.{Wiring, Lawful, Side}
 use Rattle.network.specs.Network.{down}
 use Rattle.permutation.specs.Permutations.{IsPermutation}
-use Rattle.canonical.specs.Rule.{held, half, Apart, Finished, orderOfHalf, Settled}
-use Rattle.canonical.proofs.Sides.{clash, true-or-false, not-self, other, same-pair}
+use Rattle.canonical.specs.Rule.{held, half, Apart, Finished, Settled}
+use Rattle.canonical.proofs.Sides.{clash, true-or-false, other, same-pair}
 use Rattle.canonical.proofs.Rings.{Proper}
 use Rattle.canonical.proofs.Held.{held-unlike, mate, mate-below, mate-holds}
 use Rattle.canonical.proofs.Halves.{feeder, feeder-of, feeder-enters, fits, imagined, proper, last-enters}

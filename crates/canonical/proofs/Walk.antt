@@ -2,7 +2,7 @@
 -- Assumes nothing.
 use mathlib.Core.Path.{_≡_, refl, sym, ap, _∙_}
 use mathlib.Core.Logic.{_≢_}
-use mathlib.Core.Bool.{Bool, true, false, not, cond, _&&_, Bool·beq}
+use mathlib.Core.Bool.{Bool, true, false, cond, _&&_, Bool·beq}
 use mathlib.Core.List.{List}
 use Prim.Native.Nat.{ℕ, zero, suc, _-_, _<_}
 use native.Mathlib.Omega.{arith}
@@ -16,7 +16,7 @@ use Rattle.canonical.specs.Rule.{Bits}
 use Rattle.canonical.proofs.Sides.{bitAt, bit-is, bit-below, other}
 use Rattle.canonical.proofs.Rings.{Matching}
 use Rattle.canonical.proofs.Marks.{lowest, lowest-is}
-use Rattle.canonical.proofs.Round.{Stage, Begun, Round, Done}
+use Rattle.canonical.proofs.Round.{Stage, Round, Done}
 use Rattle.canonical.proofs.Rounds.{f-in, all-rounds}
 
 abbrev pub sameSide : Side → Side → Bool
