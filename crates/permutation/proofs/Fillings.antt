@@ -15,10 +15,10 @@ use Rattle.permutation.proofs.Records.{is-record-of}
 use Rattle.permutation.proofs.Laws.{combined-length, combined-at}
 use Rattle.permutation.proofs.Inverses.{place-below, place-holds, inverted-at, inverted-permutation}
 
-abbrev zeros : ℕ → List ℕ
+abbrev pub zeros : ℕ → List ℕ
 zeros m = replicate m 0
 
-zeros-at : (m v : ℕ) → getD (zeros m) v 0 ≡ 0
+pub zeros-at : (m v : ℕ) → getD (zeros m) v 0 ≡ 0
 zeros-at m v = go (decLt v m)
   where
     go : Dec (v < m) → getD (zeros m) v 0 ≡ 0

@@ -7,3 +7,4 @@ pub mod Laws
 pub mod Records
 pub mod Fillings
 pub mod Replies
+pub mod Accepted

@@ -67,8 +67,8 @@ passes-permutation es e =
     apart i j li lj q (no l) (yes m) = absurd (good-unlike _ es i (all i li) j m (sym q))
     apart i j li lj q (no l) (no m) = omega arith
 
-pub permutation-passes : {n : ℕ} {es : List ℕ} → IsPermutation n es → firstBadEntry es ≡ length es
-permutation-passes {n} {es} P =
+pub permutation-passes : (n : ℕ) (es : List ℕ) → IsPermutation n es → firstBadEntry es ≡ length es
+permutation-passes n es P =
     none-bad (goodEntry (length es) es) (length es)
     (λ i l. good-when _ es i (omega (arith, P .whole, P .below i (omega (arith, P .whole))))
     (λ j m q. absurd (omega (arith, P .unlike j i (omega (arith, P .whole)) (omega (arith, P .whole)) q))))
