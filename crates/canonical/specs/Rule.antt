@@ -18,7 +18,7 @@ unfoldable pub held : Wiring → ℕ → List ℕ → Side → Side
 held w k o p = w .dec k (getD o (w .enc k p) (w .enc k p))
 
 -- The half that the item at place p enters, false for the top: its side, turned over where the bit of its pair is 1. The
--- last pair has no input switch and counts as bit 0: so does what stands past the end of the input bits.
+-- last pair has no input switch; it stands past the end of the input bits and counts as bit 0.
 unfoldable pub half : List ℕ → Side → Bool
 half input p = cond (eqb (getD input (p .0) 0) 1) (not (p .1)) (p .1)
 
@@ -66,6 +66,7 @@ Finished w m o input output =
 unfoldable pub orderOfHalf : Wiring → ℕ → List ℕ → List ℕ → Bool → ℕ → List ℕ
 orderOfHalf w k o input t c = tabulate (λ i. held w k o (i, half input (i, t)) .0) c
 
+-- each is 0 or 1
 unfoldable pub Bits : List ℕ → Type 0
 Bits bits = (i : ℕ) → i < length bits → getD bits i 0 < 2
 
