@@ -2,50 +2,28 @@
 -- Assumes nothing.
 use mathlib.Core.Path.{_≡_, refl, sym, ap, _∙_, subst}
 use mathlib.Core.Bool.{Bool, true, false, cond}
-use mathlib.Core.List.{List, [], _∷_, _++_, append-assoc, append-nil}
-use Prim.Native.Nat.{ℕ, zero, suc, _+_, _-_, _≤_, _<_}
+use mathlib.Core.List.{List, [], _++_, append-assoc, append-nil}
+use Prim.Native.Nat.{ℕ, _-_, _≤_, _<_}
 use native.Mathlib.Omega.{arith}
-use native.Mathlib.Decide.{decLt}
-use lib.ListN.{length, getD, drop, List·getD-append, List·getD-eq-default}
+use lib.ListN.{length, getD}
 use lib.Seq.{ext-getD, drop-at}
-use lib.Dec.{eqb}
 use Rattle.counts.specs.Counts.{up}
 use Rattle.network.specs.Wiring.{Wiring, Lawful, Side}
-use Rattle.network.specs.Network.{Network, wires, split, network, switchCount, down}
+use Rattle.network.specs.Network.{Network, network, switchCount, down}
 use Rattle.network.specs.Move.{forward, backward}
 use Rattle.network.specs.Blocks.{orderOf}
 use Rattle.network.proofs.Shape.{Sized, none, some, sized}
-use Rattle.network.proofs.Places.{Lies, crosses, crosses-in, crosses-past, flipped, turned, lies-turned, below-lies}
-use Rattle.network.proofs.Where.{goesTo, across, through, inHalves, topBits, bottomBits, outputBits}
+use Rattle.network.proofs.Places.{Lies, crosses, below-lies}
+use Rattle.network.proofs.Where.{goesTo, across, through, inHalves}
 use Rattle.network.proofs.Order.{length-order, order-at, order-forward, order-backward}
 use Rattle.permutation.specs.Permutations.{IsPermutation}
-use Rattle.canonical.specs.Rule.{held, half, orderOfHalf, Settled, SettledWith, Canonical}
+use Rattle.canonical.specs.Rule.{held, half, orderOfHalf, Settled, Canonical}
 use Rattle.canonical.specs.Carry.{Carries, BringsHome}
-use Rattle.canonical.proofs.Sides.{turn, turn-turn}
-use Rattle.canonical.proofs.Walk.{bitAt}
-use Rattle.canonical.proofs.Held.{entry-in, held-below, held-at}
+use Rattle.canonical.proofs.Sides.{bitAt, turn, turn-turn}
+use Rattle.canonical.proofs.Held.{entry-in, held-at}
 use Rattle.canonical.proofs.Halves.{feeder, feeder-of, half-at, fits, top-permutation, bottom-permutation, out-law}
+use Rattle.canonical.proofs.Through.{entered-lies, leaves, through-leaves}
 use Rattle.canonical.proofs.Only.{canonical-count}
-
--- the network's words for a turned side
-flipped-turn : (s c : Bool) → flipped s c ≡ turn c s
-flipped-turn s true = refl
-flipped-turn s false = refl
-
--- and for a bit: past the last switch of a layer it is 0
-crosses-bit :
-    (c : ℕ) (bits xs : List ℕ) → length xs ≡ c → ((i : ℕ) → i < c → getD bits i 0 ≡ getD xs i 0)
-    → (i : ℕ) → crosses c bits i ≡ bitAt xs i
-crosses-bit c bits xs e same i = go (decLt i c)
-  where
-    go : Dec (i < c) → crosses c bits i ≡ bitAt xs i
-    go (yes l) = crosses-in c bits i l ∙ ap (λ b. eqb b 1) (same i l)
-    go (no l) =
-        crosses-past c bits i (omega arith)
-        ∙ sym (ap (λ b. eqb b 1) (List·getD-eq-default xs 0 {n = i} (omega arith)))
-
-turned-bit : (a b : ℕ → Bool) → ((i : ℕ) → a i ≡ b i) → (p : Side) → turned a p ≡ (p .0, turn (b (p .0)) (p .1))
-turned-bit a b same p = λ i. (p .0, (ap (flipped (p .1)) (same (p .0)) ∙ flipped-turn (p .1) (b (p .0))) i)
 
 -- ---- one network, whose halves carry their orders
 
@@ -55,76 +33,46 @@ module _
     (tops : (i : ℕ) → i < up m → f i ≡ getD (orderOfHalf w (up m) o input false (up m)) i 0)
     (bottoms : (i : ℕ) → i < down m → g i ≡ getD (orderOfHalf w (up m) o input true (down m)) i 0)
   where
-  abbrev k : ℕ
-  k = up m
+    abbrev k : ℕ
+    k = up m
 
-  abbrev a : ℕ → Bool
-  a = crosses (k - 1) (input ++ rest)
+    -- the half takes an item to the pair of its value
+    in-half : (p : Side) (t : Bool) → p .0 < up m → (t ≡ true → p .0 < down m) → half input p ≡ t
+        → cond t (g (p .0)) (f (p .0)) ≡ held w (up m) o p .0
+    in-half p t l h e = enter t h ∙ ap (λ (r : Side). held w k o r .0) (ap (λ t. feeder input t (p .0)) (sym e) ∙ feeder-of input p)
+      where
+        enter : (t : Bool) → (t ≡ true → p .0 < down m) → cond t (g (p .0)) (f (p .0)) ≡ held w k o (feeder input t (p .0)) .0
+        enter false h = tops (p .0) l ∙ half-at w k o input false k (p .0) l
+        enter true h = bottoms (p .0) (h refl) ∙ half-at w k o input true (down m) (p .0) (h refl)
 
-  abbrev b : ℕ → Bool
-  b = crosses (down m) (output ++ tail)
+    -- and the output switch to its side
+    leaves-held : (p : Side) → Lies m p → leaves input output f g p ≡ held w (up m) o p
+    unfolding half
+    leaves-held p l =
+        let v = held w k o p in
+        ap (λ j. (j, half output (j, half input p))) (in-half p (half input p) (l .pair) (entered-lies m input (S .input-count) p l .other) refl)
+        ∙ (λ i. (v .0, turn (bitAt output (v .0)) (sym (out-law L m (omega arith) o O input (S .input-count) (S .apart) output (S .output-count) (S .finished) p (l .pair)) i)))
+        ∙ (λ i. (v .0, turn-turn (bitAt output (v .0)) (v .1) i))
 
-  entered : (p : Side) → turned a p ≡ (p .0, half input p)
-  unfolding half
-  entered p =
-      let n = S .input-count in
-      turned-bit a (bitAt input)
-      (crosses-bit (k - 1) (input ++ rest) input n (λ i l. List·getD-append input rest 0 i (omega arith)))
-      p
-
-  left : (p : Side) → turned b p ≡ (p .0, half output p)
-  unfolding half
-  left p =
-      let n = S .output-count in
-      turned-bit b (bitAt output)
-      (crosses-bit (down m) (output ++ tail) output n (λ i l. List·getD-append output tail 0 i (omega arith)))
-      p
-
-  -- the half takes an item to the pair of its value
-  in-half : (p : Side) (t : Bool) → p .0 < up m → (t ≡ true → p .0 < down m) → half input p ≡ t
-      → cond t (g (p .0)) (f (p .0)) ≡ held w (up m) o p .0
-  in-half p false l h e =
-      tops (p .0) l
-      ∙ half-at w k o input false k (p .0) l
-      ∙ ap (λ (r : Side). held w k o r .0) (ap (λ t. feeder input t (p .0)) (sym e) ∙ feeder-of input p)
-  in-half p true l h e =
-      bottoms (p .0) (h refl)
-      ∙ half-at w k o input true (down m) (p .0) (h refl)
-      ∙ ap (λ (r : Side). held w k o r .0) (ap (λ t. feeder input t (p .0)) (sym e) ∙ feeder-of input p)
-
-  -- an item that comes out of its half on its value's side
-  turned-out : (p : Side) → p .0 < up m → turned b (held w (up m) o p .0, half input p) ≡ held w (up m) o p
-  unfolding half
-  turned-out p l =
-      let v = held w k o p in
-      left (v .0, half input p)
-      ∙ (λ i. (v .0, turn (bitAt output (v .0)) (sym (out-law L m (omega arith) o O input (S .input-count) (S .apart) output (S .output-count) (S .finished) p l) i)))
-      ∙ (λ i. (v .0, turn-turn (bitAt output (v .0)) (v .1) i))
-
-  level : (q : ℕ) → q < m → through w (up m) a (inHalves f g) b q ≡ getD o q 0
-  level q h =
-      ap (λ (r : Side). w .enc k (turned b (inHalves f g r))) (entered p)
-      ∙ ap (λ j. w .enc k (turned b (j, half input p))) (in-half p (half input p) l (λ e. lies .other (ap (λ (r : Side). r .1) (entered p) ∙ e)) refl)
-      ∙ ap (w .enc k) (turned-out p l)
-      ∙ held-at L k m (fits L m (omega arith) o O) o O p l
-      ∙ ap (λ r. getD o r r) (L .enc-dec k q (omega arith))
-      ∙ entry-in m o O q h
-    where
-      p : Side
-      p = w .dec k q
-      lies : Lies m (turned a p)
-      lies = lies-turned m (k - 1) (input ++ rest) p (omega arith) (below-lies L m q h)
-      l : p .0 < k
-      l = below-lies L m q h .pair
+    level : (q : ℕ) → q < m
+        → through w (up m) (crosses (up m - 1) (input ++ rest)) (inHalves f g) (crosses (down m) (output ++ tail)) q ≡ getD o q 0
+    level q h =
+        let p : Side = w .dec k q in
+        let l = below-lies L m q h in
+        through-leaves input output f g w m rest tail (S .input-count) (S .output-count) q
+        ∙ ap (w .enc k) (leaves-held p l)
+        ∙ held-at L k m (fits L m (omega arith) o O) o O p (l .pair)
+        ∙ ap (λ r. getD o r r) (L .enc-dec k q (omega arith))
+        ∙ entry-in m o O q h
 
 -- ---- all networks
 
 -- whatever bits follow those of the network
-carried : {w : Wiring} → Lawful w → {m : ℕ} {net : Network} → Sized m net → (o : List ℕ) → IsPermutation m o
+pub canonical-carries-of : {w : Wiring} → Lawful w → {m : ℕ} {net : Network} → Sized m net → (o : List ℕ) → IsPermutation m o
     → (bits rest : List ℕ) → Canonical w net o bits → (q : ℕ) → q < m → goesTo w net (bits ++ rest) q ≡ getD o q 0
 unfolding Canonical across
-carried L (none z) o O bits rest C q h = omega (arith, O .below q h)
-carried {w} L {m} (some {top = top} {bottom = bottom} two t u) o O bits rest C q h =
+canonical-carries-of L (none z) o O bits rest C q h = omega (arith, O .below q h)
+canonical-carries-of {w} L {m} (some {top = top} {bottom = bottom} two t u) o O bits rest C q h =
     let S = C .settled in
     let afterBottom = C .output ++ rest in
     let afterTop = C .bottom ++ afterBottom in
@@ -137,12 +85,12 @@ carried {w} L {m} (some {top = top} {bottom = bottom} two t u) o O bits rest C q
       drop-at (C .bottom) afterBottom (switchCount bottom) (canonical-count w bottom _ (C .bottom) (C .in-bottom)),
     )
     (level L m two o O (C .input) (C .output) afterInput rest S
-      (goesTo w top afterInput)
-      (goesTo w bottom afterTop)
-      (carried L t _ (top-permutation L m (omega arith) o O (C .input) (S .input-count) (S .apart)) (C .top) afterTop (C .in-top))
-      (carried L u _ (bottom-permutation L m (omega arith) o O (C .input) (S .input-count) (S .apart)) (C .bottom) afterBottom (C .in-bottom))
-      q
-      h)
+    (goesTo w top afterInput)
+    (goesTo w bottom afterTop)
+    (canonical-carries-of L t _ (top-permutation L m (omega arith) o O (C .input) (S .input-count) (S .apart)) (C .top) afterTop (C .in-top))
+    (canonical-carries-of L u _ (bottom-permutation L m (omega arith) o O (C .input) (S .input-count) (S .apart)) (C .bottom) afterBottom (C .in-bottom))
+    q
+    h)
 
 module _ {w : Wiring} (L : Lawful w) (n : ℕ) (o : List ℕ) (O : IsPermutation n o) (bits : List ℕ) (C : Canonical w (network n) o bits) where
   -- the order of the canonical setting of an order is that order
@@ -150,10 +98,10 @@ module _ {w : Wiring} (L : Lawful w) (n : ℕ) (o : List ℕ) (O : IsPermutation
   canonical-order =
       ext-getD 0 (orderOf w n bits) o (length-order L n bits ∙ sym (O .whole))
       (λ i l.
-        let h : i < n = omega (arith, length-order L n bits) in
-        order-at L n bits i h
-        ∙ ap (λ b. goesTo w (network n) b i) (sym (append-nil bits))
-        ∙ carried L (sized n) o O bits [] C i h)
+      let h : i < n = omega (arith, length-order L n bits) in
+      order-at L n bits i h
+      ∙ ap (λ b. goesTo w (network n) b i) (sym (append-nil bits))
+      ∙ canonical-carries-of L (sized n) o O bits [] C i h)
 
   module _ {A : Type 0} (d : A) (xs : List A) (long : length xs ≡ n) where
     pub canonical-carries : Carries d w n o bits xs

@@ -1,23 +1,21 @@
 -- The halves of a network whose associates enter different halves: their orders are permutations; and the output switches
 -- turn each item to the side of its value. Assumes nothing.
 use mathlib.Core.Path.{_≡_, refl, sym, ap, _∙_, subst}
-use mathlib.Core.Logic.{_≢_, _⊎_, inl, inr}
-use mathlib.Core.Bool.{Bool, true, false, not, cond, Bool-discrete, Bool·not-not}
-use mathlib.Core.List.{List, [], _∷_}
-use Prim.Native.Nat.{ℕ, zero, suc, _+_, _-_, _≤_, _<_}
+use mathlib.Core.Bool.{Bool, true, false, not, Bool-discrete, Bool·not-not}
+use mathlib.Core.List.{List}
+use Prim.Native.Nat.{ℕ, suc, _+_, _-_, _≤_, _<_}
 use native.Mathlib.Omega.{arith}
-use native.Mathlib.Decide.{ℕ-discrete, decLt}
-use lib.ListN.{length, getD, List·getD-eq-default}
+use native.Mathlib.Decide.{decLt}
+use lib.ListN.{length, getD}
 use lib.Dec.{eqb}
 use Rattle.counts.specs.Counts.{up}
 use Rattle.network.specs.Wiring.{Wiring, Lawful, Side}
 use Rattle.network.specs.Network.{down}
 use Rattle.permutation.specs.Permutations.{IsPermutation}
 use Rattle.permutation.proofs.Tables.{length-tabulate, tabulate-at}
-use Rattle.canonical.specs.Rule.{held, half, HoldAssociates, Apart, Finished, orderOfHalf}
-use Rattle.canonical.proofs.Sides.{clash, turn, turn-turn, other, same-pair}
+use Rattle.canonical.specs.Rule.{held, half, Apart, Finished, orderOfHalf}
+use Rattle.canonical.proofs.Sides.{bitAt, bit-is, bitAt-past, turn, turn-turn}
 use Rattle.canonical.proofs.Rings.{Proper}
-use Rattle.canonical.proofs.Walk.{bitAt}
 use Rattle.canonical.proofs.Held.{entry-past, held-below, held-unlike, seat, seat-below, seat-holds, mate, mate-only, apart-proper}
 
 -- the place of pair i whose item enters half t
@@ -60,7 +58,7 @@ module _ {w : Wiring} (L : Lawful w) (m : ℕ) (some : 0 < m) (o : List ℕ) (O 
       let at : w .enc k (j, true) ≡ j + k = subst (λ n. w .enc n (j, true) ≡ j + n) last (L .enc-last j) in
       record {
         last = last;
-        holds-itself = ap (w .dec k) (entry-past m o O (w .enc k (j, true)) (omega (arith, at))) ∙ L .dec-enc k (j, true) l
+        holds-itself = ap (w .dec k) (entry-past m o O (w .enc k (j, true)) (omega (arith, at))) ∙ L .dec-enc k (j, true) l;
       }
 
   module _ (input : List ℕ) (count : length input ≡ up m - 1) (A : Apart w (up m) o input) where
@@ -68,9 +66,9 @@ module _ {w : Wiring} (L : Lawful w) (m : ℕ) (some : 0 < m) (o : List ℕ) (O 
     proper = apart-proper L k m fits o O input A
 
     -- the last pair is straight
-    last-enters : (j : ℕ) (t : Bool) → suc j ≡ up m → half input (j, t) ≡ t
+    pub last-enters : (j : ℕ) (t : Bool) → suc j ≡ up m → half input (j, t) ≡ t
     unfolding half
-    last-enters j t e = ap (λ b. turn (eqb b 1) t) (List·getD-eq-default input 0 {n = j} (omega arith))
+    last-enters j t e = ap (λ b. turn b t) (bitAt-past input j (omega arith))
 
     -- two items that enter one half are no associates
     pub unlike-in-half : (t : Bool) (i j : ℕ) → i < up m → j < up m
@@ -85,8 +83,8 @@ module _ {w : Wiring} (L : Lawful w) (m : ℕ) (some : 0 < m) (o : List ℕ) (O 
         go (no s) =
             absurd
             (A (feeder input t i) (feeder input t j)
-              (record { first-below = l; second-below = h; one-pair = e; two-sides = s })
-              (feeder-enters input t i ∙ sym (feeder-enters input t j)))
+            (record { first-below = l; second-below = h; one-pair = e; two-sides = s })
+            (feeder-enters input t i ∙ sym (feeder-enters input t j)))
 
     half-permutation : (t : Bool) (c : ℕ) → c ≤ up m
         → ((i : ℕ) → i < c → held w (up m) o (feeder input t i) .0 < c)
@@ -95,7 +93,7 @@ module _ {w : Wiring} (L : Lawful w) (m : ℕ) (some : 0 < m) (o : List ℕ) (O 
         record {
           whole = length-half w k o input t c;
           below = λ i l. rw (half-at w k o input t c i l) (below i l);
-          unlike = λ i j l g e. unlike-in-half t i j (omega arith) (omega arith) (sym (half-at w k o input t c i l) ∙ e ∙ half-at w k o input t c j g)
+          unlike = λ i j l g e. unlike-in-half t i j (omega arith) (omega arith) (sym (half-at w k o input t c i l) ∙ e ∙ half-at w k o input t c j g);
         }
 
     pub top-permutation : IsPermutation (up m) (orderOfHalf w (up m) o input false (up m))
@@ -109,22 +107,20 @@ module _ {w : Wiring} (L : Lawful w) (m : ℕ) (some : 0 < m) (o : List ℕ) (O 
           where
             j : ℕ
             j = held w k o (feeder input true i) .0
+
             j-below : j < k
             j-below = held-below L k m fits o O (feeder input true i) (omega arith)
+
             go : Dec (j < down m) → j < down m
             go (yes x) = x
             go (no x) =
                 let I = imagined j (omega arith) j-below in
                 let itself : held w k o (feeder input true j) ≡ (j, true) =
-                    ap (λ s. held w k o (j, s)) (last-enters j true (I .last)) ∙ I .holds-itself in
+                ap (λ s. held w k o (j, s)) (last-enters j true (I .last)) ∙ I .holds-itself in
                 absurd
                 (omega (arith, unlike-in-half true i j (omega arith) j-below (sym (ap (λ (p : Side). p .0) itself)), I .last))
 
     module _ (output : List ℕ) (out-count : length output ≡ down m) (F : Finished w m o input output) where
-      bit-is : (b : Bool) → eqb (cond b 0 1) 1 ≡ not b
-      bit-is true = refl
-      bit-is false = refl
-
       -- the half of the item whose value is (j, true), given as v's own side or the other
       side-law : (s h g : Bool) → (s ≡ true → g ≡ h) → (s ≡ false → g ≡ not h) → turn (not g) s ≡ h
       side-law true h true a b = a refl
@@ -140,6 +136,7 @@ module _ {w : Wiring} (L : Lawful w) (m : ℕ) (some : 0 < m) (o : List ℕ) (O 
         where
           same : held w k o p .1 ≡ true → half input q ≡ half input p
           same s = ap (half input) (held-unlike L k m fits o O q p h l (e ∙ (λ i. (held w k o p .0, sym s i))))
+
           opposite : held w k o p .1 ≡ false → half input q ≡ not (half input p)
           opposite s =
               ap (half input) (mate-only L k m fits o O p q l h (e ∙ (λ i. (held w k o p .0, sym (ap not s) i))))
@@ -152,10 +149,13 @@ module _ {w : Wiring} (L : Lawful w) (m : ℕ) (some : 0 < m) (o : List ℕ) (O 
         where
           j : ℕ
           j = held w k o p .0
+
           j-below : j < k
           j-below = held-below L k m fits o O p l
+
           q : Side
           q = seat w k o (j, true)
+
           go : Dec (j < down m) → half output (held w k o p) ≡ half input p
           go (yes x) =
               let h = seat-below L k m fits o O (j, true) j-below in
@@ -165,6 +165,6 @@ module _ {w : Wiring} (L : Lawful w) (m : ℕ) (some : 0 < m) (o : List ℕ) (O 
               ∙ other-half p q l h e
           go (no x) =
               let I = imagined j (omega arith) j-below in
-              ap (λ b. turn (eqb b 1) (held w k o p .1)) (List·getD-eq-default output 0 {n = j} (omega arith))
+              ap (λ b. turn b (held w k o p .1)) (bitAt-past output j (omega arith))
               ∙ ap (λ g. turn (not g) (held w k o p .1)) (sym (last-enters j true (I .last)))
               ∙ other-half p (j, true) l j-below (I .holds-itself)

@@ -2,22 +2,20 @@
 -- associate of each. With that the rule's words (Apart, Ring, LowestStraight) are those of a matching (Proper, Chain, Ruled).
 -- Assumes nothing.
 use mathlib.Core.Path.{_≡_, refl, sym, ap, _∙_, subst}
-use mathlib.Core.Logic.{_≢_, _⊎_, inl, inr}
-use mathlib.Core.Bool.{Bool, true, false, not, cond}
+use mathlib.Core.Bool.{false, cond}
 use mathlib.Core.List.{List, [], _∷_}
 use Prim.Native.Nat.{ℕ, zero, suc, _+_, _-_, _≤_, _<_}
 use native.Mathlib.Omega.{arith}
-use native.Mathlib.Decide.{ℕ-discrete, decLt}
-use borrow.Author.Tests.{lt-ltb, le-ltb, eq-eqb, ne-eqb, eqb-true, eqb-false}
+use native.Mathlib.Decide.{decLt}
+use borrow.Author.Tests.{lt-ltb, le-ltb, eqb-false}
 use lib.ListN.{length, getD, List·getD-eq-default}
 use lib.Dec.{eqb, ltb}
 use Rattle.network.specs.Wiring.{Wiring, Lawful, Side}
 use Rattle.permutation.specs.Permutations.{IsPermutation, placeOf}
-use Rattle.permutation.proofs.Inverses.{place-below, place-holds, place-only}
+use Rattle.permutation.proofs.Inverses.{place-below, place-holds}
 use Rattle.canonical.specs.Rule.{held, half, HoldAssociates, Apart, Linked, Ring, here, link, LowestStraight, Bits}
-use Rattle.canonical.proofs.Sides.{other, other-other, other-unlike, unlike-not, not-self, enters}
+use Rattle.canonical.proofs.Sides.{bitAt, bitAt-past, other, other-other, other-unlike, unlike-not, not-self}
 use Rattle.canonical.proofs.Rings.{Chain, stay, along, Matching, Proper, Ruled}
-use Rattle.canonical.proofs.Walk.{bitAt}
 
 -- inside a list the default does not matter
 pub getD-inside : {A : Type 0} (xs : List A) (i : ℕ) (d e : A) → i < length xs → getD xs i d ≡ getD xs i e
@@ -62,27 +60,31 @@ module _ (m : ℕ) (o : List ℕ) (O : IsPermutation m o) where
       go (no x) (yes y) = absurd (omega (arith, entry-inside r y, entry-past q (omega arith)))
       go (no x) (no y) = sym (entry-past q (omega arith)) ∙ e ∙ entry-past r (omega arith)
 
-  placeFor-in : (y : ℕ) → y < m → placeFor o y ≡ placeOf o y
+  pub placeFor-in : (y : ℕ) → y < m → placeFor o y ≡ placeOf o y
   unfolding placeFor
   placeFor-in y h = rw (lt-ltb y (length o) (omega (arith, O .whole)))
 
-  placeFor-past : (y : ℕ) → m ≤ y → placeFor o y ≡ y
+  pub placeFor-past : (y : ℕ) → m ≤ y → placeFor o y ≡ y
   unfolding placeFor
   placeFor-past y h = rw (le-ltb y (length o) (omega (arith, O .whole)))
 
-  placeFor-below : (n y : ℕ) → m ≤ n → y < n → placeFor o y < n
+  pub placeFor-below : (n y : ℕ) → m ≤ n → y < n → placeFor o y < n
   placeFor-below n y h l = go (decLt y m)
     where
       go : Dec (y < m) → placeFor o y < n
       go (yes x) = rw (placeFor-in y x) (omega (arith, place-below m o O y x))
       go (no x) = rw (placeFor-past y (omega arith)) l
 
-  placeFor-holds : (y : ℕ) → getD o (placeFor o y) (placeFor o y) ≡ y
+  pub placeFor-holds : (y : ℕ) → getD o (placeFor o y) (placeFor o y) ≡ y
   placeFor-holds y = go (decLt y m)
     where
       go : Dec (y < m) → getD o (placeFor o y) (placeFor o y) ≡ y
       go (yes x) = rw (placeFor-in y x) (entry-in (placeOf o y) (place-below m o O y x) ∙ place-holds m o O y x)
       go (no x) = rw (placeFor-past y (omega arith)) (entry-past y (omega arith))
+
+  -- a search that finds a place with the value finds this one
+  pub placeFor-only : (y q : ℕ) → getD o q q ≡ y → q ≡ placeFor o y
+  placeFor-only y q e = entry-unlike q (placeFor o y) (e ∙ sym (placeFor-holds y))
 
 module _ {w : Wiring} (L : Lawful w) (k m : ℕ) (fits : m ≤ k + k) (o : List ℕ) (O : IsPermutation m o) where
   pub held-below : (p : Side) → p .0 < k → held w k o p .0 < k
@@ -110,6 +112,10 @@ module _ {w : Wiring} (L : Lawful w) (k m : ℕ) (fits : m ≤ k + k) (o : List 
       ∙ ap (w .dec k) (placeFor-holds m o O (w .enc k v))
       ∙ L .dec-enc k v l
 
+  pub seat-place : (v : Side) → v .0 < k → w .enc k (seat w k o v) ≡ placeFor o (w .enc k v)
+  unfolding seat
+  seat-place v l = L .enc-dec k _ (placeFor-below m o O (k + k) _ fits (L .enc< k v l))
+
   pub mate-below : (p : Side) → p .0 < k → mate w k o p .0 < k
   unfolding mate
   mate-below p l = seat-below (other (held w k o p)) (held-below p l)
@@ -117,6 +123,11 @@ module _ {w : Wiring} (L : Lawful w) (k m : ℕ) (fits : m ≤ k + k) (o : List 
   pub mate-holds : (p : Side) → p .0 < k → held w k o (mate w k o p) ≡ other (held w k o p)
   unfolding mate
   mate-holds p l = seat-holds (other (held w k o p)) (held-below p l)
+
+  -- as a place of the network: that of the associate's number
+  pub mate-place : (p : Side) → p .0 < k → w .enc k (mate w k o p) ≡ placeFor o (w .enc k (other (held w k o p)))
+  unfolding mate
+  mate-place p l = seat-place (other (held w k o p)) (held-below p l)
 
   -- whatever place holds the associate is the mate
   pub mate-only : (p q : Side) → p .0 < k → q .0 < k → held w k o q ≡ other (held w k o p) → q ≡ mate w k o p
@@ -127,7 +138,7 @@ module _ {w : Wiring} (L : Lawful w) (k m : ℕ) (fits : m ≤ k + k) (o : List 
       record {
         below = mate-below;
         twice = λ p l. sym (mate-only (mate w k o p) p (mate-below p l) l (sym (ap other (mate-holds p l) ∙ other-other (held w k o p))));
-        moves = λ p l e. other-unlike (held w k o p) (sym (mate-holds p l) ∙ ap (held w k o) e)
+        moves = λ p l e. other-unlike (held w k o p) (sym (mate-holds p l) ∙ ap (held w k o) e);
       }
 
   -- ---- the rule's words
@@ -139,7 +150,7 @@ module _ {w : Wiring} (L : Lawful w) (k m : ℕ) (fits : m ≤ k + k) (o : List 
         first-below = l;
         second-below = mate-below p l;
         one-pair = sym (ap (λ (v : Side). v .0) e);
-        two-sides = λ q. not-self (held w k o p .1) (sym (q ∙ ap (λ (v : Side). v .1) e))
+        two-sides = λ q. not-self (held w k o p .1) (sym (q ∙ ap (λ (v : Side). v .1) e));
       }
 
   pub is-mate : {p q : Side} → HoldAssociates w k o p q → q ≡ mate w k o p
@@ -184,9 +195,6 @@ module _ {w : Wiring} (L : Lawful w) (k m : ℕ) (fits : m ≤ k + k) (o : List 
           go (yes l) = omega (arith, B i l, eqb-false (getD input i 0) 1 e)
           go (no l) = List·getD-eq-default input 0 {n = i} (omega arith)
 
-      zero-straight : (i : ℕ) → getD input i 0 ≡ 0 → bitAt input i ≡ false
-      zero-straight i e = rw e refl
-
       pub ruled-lowest : Ruled k (mate w k o) (bitAt input) → LowestStraight w k o input
       unfolding LowestStraight
       ruled-lowest R i l apart lowest =
@@ -197,7 +205,7 @@ module _ {w : Wiring} (L : Lawful w) (k m : ℕ) (fits : m ≤ k + k) (o : List 
       unfolding LowestStraight
       lowest-ruled R =
           record {
-            last-straight = λ i e. zero-straight i (List·getD-eq-default input 0 {n = i} (omega arith));
+            last-straight = λ i e. bitAt-past input i (omega arith);
             lowest-straight = λ i l lowest apart.
-              zero-straight i (R i l (λ r. apart (k - 1) (omega arith) (ring-chain r)) (λ j r. lowest j (ring-below r l) (ring-chain r)))
+                ap (λ b. eqb b 1) (R i l (λ r. apart (k - 1) (omega arith) (ring-chain r)) (λ j r. lowest j (ring-below r l) (ring-chain r)));
           }

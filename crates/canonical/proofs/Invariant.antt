@@ -84,6 +84,7 @@ module _ (k : ℕ) (mate : Side → Side) (M : Matching k mate) where
           where
             e : suc (s .0) ≡ k
             e = omega (arith, s-below)
+
             at : (s ≡ x .c) ⊎ (s ≡ other (x .c)) → enters (y .bit) s ≡ true
             at (inl q) = absurd (s≢c q)
             at (inr q) = rw (S .bit-last (s .0) e, I .last-straight (s .0) e, ap (λ (p : Side). p .1) q, I .c-low) refl
@@ -141,6 +142,7 @@ module _ (k : ℕ) (mate : Side → Side) (M : Matching k mate) where
         at : (p ≡ x .f) ⊎ (visited p ≡ true) → now (mate p) ≡ true
         at (inl e) = ap (λ q. now (mate q)) e ∙ now-s
         at (inr e) = now-old (mate p) (I .visited-mates p l e)
+
         go : (p ≡ s) ⊎ (add (x .f) visited p ≡ true) → now (mate p) ≡ true
         go (inl e) = ap (λ q. now (mate q)) e ∙ ap now mate-s ∙ now-f
         go (inr e) = at (added (x .f) visited p e)
@@ -152,6 +154,7 @@ module _ (k : ℕ) (mate : Side → Side) (M : Matching k mate) where
         at : (p ≡ x .f) ⊎ (visited p ≡ true) → enters (y .bit) (mate p) ≡ not (enters (y .bit) p)
         at (inl e) = rw e (s-bottom ∙ sym (ap not keep-f))
         at (inr e) = keep-visited (mate p) (M .below p l) (I .visited-mates p l e) ∙ I .opposite p l e ∙ sym (ap not (keep-visited p l e))
+
         go : (p ≡ s) ⊎ (add (x .f) visited p ≡ true) → enters (y .bit) (mate p) ≡ not (enters (y .bit) p)
         go (inl e) = rw e (ap (enters (y .bit)) mate-s ∙ keep-f ∙ sym (ap not s-bottom))
         go (inr e) = at (added (x .f) visited p e)
@@ -230,12 +233,15 @@ module _ (k : ℕ) (mate : Side → Side) (M : Matching k mate) where
         zero-bit : s ≡ other (x .c) → Dec (suc (s .0) < k) → y .bit (s .0) ≡ false
         zero-bit q (yes l) = S .bit-new l ∙ ap not (ap (λ (p : Side). p .1) q ∙ ap not (I .c-low))
         zero-bit q (no l) = last-straight′ (s .0) (omega (arith, s-below))
+
         same : (s ≡ x .c) ⊎ (s ≡ other (x .c)) → y .bit (s .0) ≡ false
         same (inl q) = absurd (s≢c q)
         same (inr q) = zero-bit q (decLt (suc (s .0)) k)
+
         at : x .c .0 ≤ s .0 → Dec (s .0 ≡ x .c .0) → Good k mate (y .bit) (s .0)
         at l (yes e) = inl (same (same-pair s (x .c) e))
         at l (no e) = inr (inr (x .c .0, omega arith, ring-s))
+
         go : (suc (x .c .0) ≡ k) ⊎ ((j : ℕ) → j < k → x .mark j ≡ false → x .c .0 ≤ j) → Good k mate (y .bit) (s .0)
         go (inl e) = inr (inl (x .c .0, e, ring-s))
         go (inr h) = at (h (s .0) s-below s-unmarked) (ℕ-discrete (s .0) (x .c .0))
@@ -294,7 +300,7 @@ module _ (k : ℕ) (mate : Side → Side) (M : Matching k mate) where
             c-lowest = ⊎-map (λ e. e) (λ h j l m. h j l (unmark j l m)) (I .c-lowest);
             linked = ring-s;
             rule = rule′;
-            last-straight = last-straight′
+            last-straight = last-straight′;
           }
 
     -- the ring is closed, and the walk goes to the lowest unmarked pair
@@ -325,11 +331,12 @@ module _ (k : ℕ) (mate : Side → Side) (M : Matching k mate) where
             c-lowest = inr least;
             linked = stay;
             rule = rule′;
-            last-straight = last-straight′
+            last-straight = last-straight′;
           }
         where
           top-if-straight : enters (y .bit) (j, false) ≡ false
           top-if-straight = ap (λ c. turn c false) (unmarked-straight′ j (L .below) (L .unmarked))
+
           least : (i : ℕ) → i < k → y .mark i ≡ false → j ≤ i
           least i li n = elim (decLt i j) [ yes q ↦ clash (L .before i q) n | no q ↦ omega arith ]
 
@@ -339,7 +346,7 @@ module _ (k : ℕ) (mate : Side → Side) (M : Matching k mate) where
             all = h;
             opposite = λ p l. opposite′ p l (closed e p l ∙ h (p .0) l);
             rule = λ i l. rule′ i l (h i l);
-            last-straight = last-straight′
+            last-straight = last-straight′;
           }
 
     pub kept : Going k mate y ⊎ Done k mate y
@@ -347,6 +354,7 @@ module _ (k : ℕ) (mate : Side → Side) (M : Matching k mate) where
       where
         renew : (a b : Side) → Invariant k mate (record { mark = y .mark; bit = y .bit; f = a; c = b }) now → (y .f ≡ a) × (y .c ≡ b) → Going k mate y
         renew a b J q = (now, subst₂ (λ u v. Invariant k mate (record { mark = y .mark; bit = y .bit; f = u; c = v }) now) (sym (q .0)) (sym (q .1)) J)
+
         go : Dec (other s ≡ x .c) → ((j : ℕ) → j < k → y .mark j ≡ true) ⊎ ((j : ℕ) × Lowest k (y .mark) j) → Going k mate y ⊎ Done k mate y
         go (no ne) d = inl (renew (other s) (x .c) (on ne) (S .go-on ne))
         go (yes e) (inl h) = inr (finished e h)

@@ -10,4 +10,9 @@ pub mod Held
 pub mod Halves
 pub mod Setting
 pub mod Only
+pub mod Through
 pub mod Carry
+pub mod Carrying
+pub mod Steps
+pub mod Paper
+pub mod Cases

@@ -49,7 +49,7 @@ module _ (k : ℕ) (mate : Side → Side) where
     ruled-same R =
         record {
           last-straight = λ i h. sym (same i (omega arith)) ∙ R .last-straight i h;
-          lowest-straight = λ i l lowest apart. sym (same i l) ∙ R .lowest-straight i l lowest apart
+          lowest-straight = λ i l lowest apart. sym (same i l) ∙ R .lowest-straight i l lowest apart;
         }
 
   module _ (M : Matching k mate) (b e : ℕ → Bool) (B : Proper b) (E : Proper e) where
@@ -79,6 +79,7 @@ module _ (k : ℕ) (mate : Side → Side) where
                   pick : Dec (j < i) → i ≤ j
                   pick (yes x) = absurd (d (agree-ring q m (ih j (omega arith) lj)))
                   pick (no x) = omega arith
+
               apart : (j : ℕ) → suc j ≡ k → ¬ (Chain mate i j)
               apart j h q = d (agree-ring q m (R .last-straight j h ∙ sym (S .last-straight j h)))
 

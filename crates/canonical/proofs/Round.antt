@@ -4,7 +4,7 @@
 use mathlib.Core.Path.{_≡_}
 use mathlib.Core.Logic.{_≢_, _⊎_}
 use mathlib.Core.Bool.{Bool, true, false, not}
-use Prim.Native.Nat.{ℕ, suc, _-_, _≤_, _<_}
+use Prim.Native.Nat.{ℕ, suc, _-_, _<_}
 use Rattle.network.specs.Wiring.{Side}
 use Rattle.canonical.proofs.Sides.{other, enters}
 use Rattle.canonical.proofs.Rings.{Chain}

@@ -2,7 +2,7 @@
 -- `Done`. Assumes nothing.
 use mathlib.Core.Path.{_≡_, refl, sym, ap, _∙_, subst₂}
 use mathlib.Core.Logic.{_⊎_, inl, inr}
-use mathlib.Core.Bool.{Bool, true, false}
+use mathlib.Core.Bool.{false}
 use Prim.Native.Nat.{ℕ, zero, suc, _-_, _≤_, _<_}
 use native.Mathlib.Omega.{arith}
 use Rattle.network.specs.Wiring.{Side}
@@ -35,7 +35,7 @@ module _ (k : ℕ) (positive : 0 < k) (mate : Side → Side) (M : Matching k mat
         c-lowest = inl (omega arith);
         linked = stay;
         rule = λ i l e. clash e (B .no-mark i l);
-        last-straight = λ j e. B .no-bit j (omega arith)
+        last-straight = λ j e. B .no-bit j (omega arith);
       })
     where
       top : turn (x .bit (k - 1)) false ≡ false
@@ -64,7 +64,7 @@ module _ (k : ℕ) (positive : 0 < k) (mate : Side → Side) (M : Matching k mat
       go (inl g) =
           record {
             marks = counted k mate M x y (g .0) (g .1) R ∙ ap suc (a .marks);
-            stage = kept k mate M x y (g .0) (g .1) R
+            stage = kept k mate M x y (g .0) (g .1) R;
           }
       go (inr d) = absurd (omega (arith, a .marks, count-all k (x .mark) (d .all)))
 
@@ -95,7 +95,7 @@ unfolding Good
 done-ruled k mate x d =
     record {
       last-straight = d .last-straight;
-      lowest-straight = λ i l lowest apart. go i l lowest apart (d .rule i l)
+      lowest-straight = λ i l lowest apart. go i l lowest apart (d .rule i l);
     }
   where
     go :

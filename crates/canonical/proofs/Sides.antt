@@ -3,8 +3,12 @@
 use mathlib.Core.Path.{_≡_, refl, sym, ap, _∙_}
 use mathlib.Core.Logic.{_≢_, _⊎_, inl, inr}
 use mathlib.Core.Bool.{Bool, true, false, not, cond, Bool-discrete, Bool·not-not, true≢false, false≢true}
-use Prim.Native.Nat.{ℕ}
+use mathlib.Core.List.{List}
+use Prim.Native.Nat.{ℕ, _≤_, _<_}
+use native.Mathlib.Omega.{arith}
 use native.Mathlib.Decide.{ℕ-discrete}
+use lib.Dec.{eqb}
+use lib.ListN.{length, getD, List·getD-eq-default}
 use Rattle.network.specs.Wiring.{Side}
 
 -- ---- Booleans
@@ -56,6 +60,25 @@ turn-turn false s = refl
 pub turn-to-bottom : (s : Bool) → turn (not s) s ≡ true
 turn-to-bottom true = refl
 turn-to-bottom false = refl
+
+-- ---- bits as numbers
+
+-- bit i of a list is 1
+abbrev pub bitAt : List ℕ → ℕ → Bool
+bitAt bits i = eqb (getD bits i 0) 1
+
+-- the bit that is 1 where t is false
+pub bit-is : (t : Bool) → eqb (cond t 0 1) 1 ≡ not t
+bit-is true = refl
+bit-is false = refl
+
+pub bit-below : (t : Bool) → cond t 0 1 < 2
+bit-below true = omega arith
+bit-below false = omega arith
+
+-- past the end of a list stand bits 0
+pub bitAt-past : (bits : List ℕ) (i : ℕ) → length bits ≤ i → bitAt bits i ≡ false
+bitAt-past bits i h = ap (λ b. eqb b 1) (List·getD-eq-default bits 0 {n = i} h)
 
 -- ---- places
 

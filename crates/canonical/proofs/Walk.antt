@@ -2,7 +2,7 @@
 -- Assumes nothing.
 use mathlib.Core.Path.{_≡_, refl, sym, ap, _∙_}
 use mathlib.Core.Logic.{_≢_}
-use mathlib.Core.Bool.{Bool, true, false, not, cond, _&&_, Bool·beq}
+use mathlib.Core.Bool.{Bool, true, false, cond, _&&_, Bool·beq}
 use mathlib.Core.List.{List}
 use Prim.Native.Nat.{ℕ, zero, suc, _-_, _<_}
 use native.Mathlib.Omega.{arith}
@@ -13,10 +13,10 @@ use lib.Seq.{getD-set-same, getD-set-other}
 use lib.Dec.{eqb, ltb}
 use Rattle.network.specs.Wiring.{Side}
 use Rattle.canonical.specs.Rule.{Bits}
-use Rattle.canonical.proofs.Sides.{other}
+use Rattle.canonical.proofs.Sides.{bitAt, bit-is, bit-below, other}
 use Rattle.canonical.proofs.Rings.{Matching}
 use Rattle.canonical.proofs.Marks.{lowest, lowest-is}
-use Rattle.canonical.proofs.Round.{Stage, Begun, Round, Done}
+use Rattle.canonical.proofs.Round.{Stage, Round, Done}
 use Rattle.canonical.proofs.Rounds.{f-in, all-rounds}
 
 abbrev pub sameSide : Side → Side → Bool
@@ -28,10 +28,6 @@ pub record Walk : Type 0 where
   pub bits : List ℕ
   pub f : Side
   pub c : Side
-
--- bit i of a list is 1
-abbrev pub bitAt : List ℕ → ℕ → Bool
-bitAt bits i = eqb (getD bits i 0) 1
 
 abbrev pub stage : Walk → Stage
 stage x = record { mark = λ i. getD (x .marks) i false; bit = bitAt (x .bits); f = x .f; c = x .c }
@@ -91,20 +87,13 @@ pub record Lengths (k : ℕ) (x : Walk) : Type 0 where
   pub of-bits : suc (length (x .bits)) ≡ k
   pub are-bits : Bits (x .bits)
 
-bit-of : (t : Bool) → eqb (cond t 0 1) 1 ≡ not t
-bit-of true = refl
-bit-of false = refl
-
-bit-below : (t : Bool) → cond t 0 1 < 2
-bit-below true = omega arith
-bit-below false = omega arith
-
 set-bits : (bits : List ℕ) (i : ℕ) (t : Bool) → Bits bits → Bits (set bits i (cond t 0 1))
 unfolding Bits
 set-bits bits i t B j l = go (ℕ-discrete j i)
   where
     inside : j < length bits
     inside = rw length-set at l
+
     go : Dec (j ≡ i) → getD (set bits i (cond t 0 1)) j 0 < 2
     go (yes e) = rw (e, getD-set-same bits i (cond t 0 1) 0 (rw e at inside)) (bit-below t)
     go (no d) = rw (getD-set-other bits i j (cond t 0 1) 0 d) (B j inside)
@@ -115,7 +104,7 @@ module _ (k : ℕ) (mate : Side → Side) (x : Walk) (Z : Lengths k x) where
       record {
         of-marks = rw length-set (Z .of-marks);
         of-bits = rw length-set (Z .of-bits);
-        are-bits = set-bits (x .bits) (mate (x .f) .0) (mate (x .f) .1) (Z .are-bits)
+        are-bits = set-bits (x .bits) (mate (x .f) .0) (mate (x .f) .1) (Z .are-bits);
       }
 
   module _ (l : mate (x .f) .0 < k) where
@@ -130,18 +119,18 @@ module _ (k : ℕ) (mate : Side → Side) (x : Walk) (Z : Lengths k x) where
         record {
           mark-new = getD-set-same (x .marks) (s .0) true false (omega (arith, Z));
           mark-old = λ j _ d. getD-set-other (x .marks) (s .0) j true false d;
-          bit-new = λ h. ap (λ b. eqb b 1) (getD-set-same (x .bits) (s .0) bit 0 (omega (arith, Z))) ∙ bit-of (s .1);
+          bit-new = λ h. ap (λ b. eqb b 1) (getD-set-same (x .bits) (s .0) bit 0 (omega (arith, Z))) ∙ bit-is (s .1);
           bit-last = λ j e. ap (λ b. eqb b 1)
-            (List·getD-eq-default (set (x .bits) (s .0) bit) 0 {n = j} (rw length-set (omega (arith, Z)))
+              (List·getD-eq-default (set (x .bits) (s .0) bit) 0 {n = j} (rw length-set (omega (arith, Z)))
               ∙ sym (List·getD-eq-default (x .bits) 0 {n = j} (omega (arith, Z))));
           bit-old = λ j _ d. ap (λ b. eqb b 1) (getD-set-other (x .bits) (s .0) j bit 0 d);
           go-on = λ ne. let e = not-true-false (sameSide (other s) (x .c)) (λ q. ne (same-side-true _ _ q)) in (rw e refl, rw e refl);
           again = λ e j L.
-            let q = true-same-side (other s) (x .c) e in
-            let h = L .below in
-            let u = lowest-is k 0 j (λ i. getD (set (x .marks) (s .0) true) i false) (omega arith) (omega arith) (L .unmarked) (L .before) in
-            let v = lt-ltb j k (L .below) in
-            (rw (q, u, v) refl, rw (q, u, v) refl)
+              let q = true-same-side (other s) (x .c) e in
+              let h = L .below in
+              let u = lowest-is k 0 j (λ i. getD (set (x .marks) (s .0) true) i false) (omega arith) (omega arith) (L .unmarked) (L .before) in
+              let v = lt-ltb j k (L .below) in
+              (rw (q, u, v) refl, rw (q, u, v) refl);
         }
 
 -- ---- all rounds
@@ -157,7 +146,7 @@ walk-lengths zero k mate l =
     record {
       of-marks = length-replicate k false;
       of-bits = rw (length-replicate {A = ℕ} (k - 1) 0) (omega arith);
-      are-bits = λ i _. rw (getD-blank {A = ℕ} (k - 1) i 0) (omega arith)
+      are-bits = λ i _. rw (getD-blank {A = ℕ} (k - 1) i 0) (omega arith);
     }
 walk-lengths (suc n) k mate l = round-lengths k mate (walk n k mate) (walk-lengths n k mate l)
 
@@ -168,6 +157,6 @@ walk-done k mate l M =
       no-mark = λ j _. getD-blank k j false;
       no-bit = λ j _. ap (λ b. eqb b 1) (getD-blank {A = ℕ} (k - 1) j 0);
       at-f = refl;
-      at-c = refl
+      at-c = refl;
     })
     (λ n h a. round-round k mate (walk n k mate) (walk-lengths n k mate l) (M .below (walk n k mate .f) (f-in k l mate M n (stage (walk n k mate)) h a)))

@@ -3,13 +3,13 @@
 use mathlib.Core.Path.{_≡_}
 use mathlib.Core.Logic.{_≢_}
 use mathlib.Core.Bool.{Bool, true, false, not, cond}
-use mathlib.Core.List.{List, [], _∷_, _++_}
-use Prim.Native.Nat.{ℕ, zero, suc, _+_, _-_, _≤_, _<_}
+use mathlib.Core.List.{List, [], _++_}
+use Prim.Native.Nat.{ℕ, _-_, _≤_, _<_}
 use lib.Dec.{eqb}
 use lib.ListN.{length, getD}
 use Rattle.counts.specs.Counts.{up}
 use Rattle.network.specs.Wiring.{Wiring, Side}
-use Rattle.network.specs.Network.{Network, wires, split, down}
+use Rattle.network.specs.Network.{Network, wires, split, network, down}
 use Rattle.permutation.specs.Permutations.{tabulate}
 
 -- Places and values of a network of k pairs are named alike, by their pair and side. The value that place p holds: for an
@@ -18,7 +18,7 @@ unfoldable pub held : Wiring → ℕ → List ℕ → Side → Side
 held w k o p = w .dec k (getD o (w .enc k p) (w .enc k p))
 
 -- The half that the item at place p enters, false for the top: its side, turned over where the bit of its pair is 1. The
--- last pair has no input switch and counts as bit 0: so does what stands past the end of the input bits.
+-- last pair has no input switch; it stands past the end of the input bits and counts as bit 0.
 unfoldable pub half : List ℕ → Side → Bool
 half input p = cond (eqb (getD input (p .0) 0) 1) (not (p .1)) (p .1)
 
@@ -66,6 +66,7 @@ Finished w m o input output =
 unfoldable pub orderOfHalf : Wiring → ℕ → List ℕ → List ℕ → Bool → ℕ → List ℕ
 orderOfHalf w k o input t c = tabulate (λ i. held w k o (i, half input (i, t)) .0) c
 
+-- each is 0 or 1
 unfoldable pub Bits : List ℕ → Type 0
 Bits bits = (i : ℕ) → i < length bits → getD bits i 0 < 2
 
@@ -94,3 +95,9 @@ pub record SettledWith (w : Wiring) (m : ℕ) (Top Bottom : List ℕ → List �
 unfoldable pub Canonical : Wiring → Network → List ℕ → List ℕ → Type 0
 Canonical w wires o bits = bits ≡ []
 Canonical w (split m top bottom) o bits = SettledWith w m (Canonical w top) (Canonical w bottom) o bits
+
+-- exactly one setting of an order obeys the rule
+pub record ExactlyOne (w : Wiring) (n : ℕ) (o : List ℕ) : Type 0 where
+  pub setting : List ℕ
+  pub canonical : Canonical w (network n) o setting
+  pub only : (bits : List ℕ) → Canonical w (network n) o bits → bits ≡ setting

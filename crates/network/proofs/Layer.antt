@@ -1,36 +1,21 @@
 -- What a layer of switches leaves at each place, forward or back. The places of its pairs are any that lie apart: those of
 -- a lawful wiring, or those of a network inside another.
 -- Assumes nothing.
-use mathlib.Core.Bool.{Bool, true, false, not, cond, true≢false, false≢true}
+use mathlib.Core.Bool.{Bool, true, false, cond, false≢true}
 use mathlib.Core.Path.{_≡_, refl, sym, ap, _∙_}
 use mathlib.Core.Logic.{_≢_}
 use mathlib.Core.List.{List, [], _∷_, _++_}
-use Prim.Native.Nat.{ℕ, zero, suc, _+_, _-_, _≤_, _<_}
+use Prim.Native.Nat.{ℕ, zero, suc, _≤_, _<_}
 use native.Mathlib.Omega.{arith}
-use native.Mathlib.Decide.{decLt, ℕ-discrete}
-use lib.Dec.{ltb, eqb}
-use lib.ListN.{length, getD, length-append, List·getD-append}
-use lib.Seq.{ext-getD, getD-at}
-use Rattle.counts.specs.Counts.{up}
-use Rattle.network.specs.Wiring.{Wiring, Lawful, Side}
+use native.Mathlib.Decide.{ℕ-discrete}
+use lib.Dec.{eqb}
+use lib.ListN.{length, getD, List·getD-append}
+use lib.Seq.{getD-at}
+use Rattle.network.specs.Wiring.{Wiring, Side}
 use Rattle.network.specs.Network.{down}
 use Rattle.network.specs.Move.{switch, layer, layerBack, part, joined}
-use Rattle.network.proofs.Shape.{length-switch, length-layer, length-layerBack, length-part, length-joined}
-use Rattle.network.proofs.Places.{
-  Lies,
-  Laid,
-  lies-both,
-  lies-turned,
-  flipped,
-  turned,
-  crosses,
-  crosses-in,
-  crosses-past,
-  crosses-other,
-  switch-first,
-  switch-second,
-  switch-other,
-}
+use Rattle.network.proofs.Shape.{length-switch, length-layer, length-part, length-joined}
+use Rattle.network.proofs.Places.{Lies, Laid, lies-both, lies-turned, flipped, turned, crosses, crosses-in, crosses-past, crosses-other, switch-first, switch-second, switch-other}
 
 module _ {A : Type 0} (d : A) (w : Wiring) (k m : ℕ) where
   -- switch i of a layer

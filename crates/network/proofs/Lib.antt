@@ -8,3 +8,5 @@ pub mod Where
 pub mod Undo
 pub mod Order
 pub mod Moved
+pub mod Run
+pub mod RunBack

@@ -1,10 +1,10 @@
 -- Moving blocks in bytes: widths stay, and moving forward and back undo each other.
 -- Assumes nothing.
-use mathlib.Core.Path.{_≡_, refl, sym, ap, _∙_}
+use mathlib.Core.Path.{_≡_, ap, _∙_}
 use mathlib.Core.List.{List, []}
-use Prim.Native.Nat.{ℕ, _*_, _≤_, _<_}
+use Prim.Native.Nat.{ℕ, _*_, _<_}
 use native.Mathlib.Omega.{arith}
-use lib.ListN.{length, getD}
+use lib.ListN.{length}
 use Rattle.network.specs.Wiring.{Wiring, Lawful}
 use Rattle.network.specs.Network.{network}
 use Rattle.network.specs.Move.{forward, backward}

@@ -4,3 +4,7 @@ pub mod Pigeons
 pub mod Tables
 pub mod Inverses
 pub mod Laws
+pub mod Records
+pub mod Fillings
+pub mod Replies
+pub mod Accepted

@@ -13,7 +13,7 @@ use borrow.Author.Tests.{eq-eqb, ne-eqb, eqb-true, eqb-false, ltb-true, lt-ltb}
 use Rattle.answers.specs.Questions.{firstBad}
 use Rattle.answers.proofs.Questions.{bad-within, all-good, none-bad, bad-at}
 use Rattle.permutation.specs.Permutations.{matches, goodEntry, firstBadEntry, IsPermutation}
-use Rattle.permutation.proofs.Sweeps.{none-passes, all-fail}
+use Rattle.permutation.proofs.Sweeps.{none-passes, all-fail, same-count}
 
 both-true : (a b : Bool) → (a && b) ≡ true → (a ≡ true) × (b ≡ true)
 both-true true true e = (refl, refl)
@@ -43,6 +43,12 @@ module _ (n : ℕ) (es : List ℕ) (i : ℕ) where
   good-when b u =
       rw (lt-ltb _ _ b, all-fail (λ k. eqb (getD es k 0) (getD es i 0)) i (λ j l. ne-eqb _ _ (u j l)))
 
+-- it depends on the entries up to i alone
+pub same-good : (n : ℕ) (a b : List ℕ) (i : ℕ) → ((j : ℕ) → j ≤ i → getD a j 0 ≡ getD b j 0) → goodEntry n a i ≡ goodEntry n b i
+unfolding goodEntry
+same-good n a b i h =
+    rw (h i (omega arith), same-count (λ j. eqb (getD a j 0) (getD b i 0)) (λ j. eqb (getD b j 0) (getD b i 0)) i (λ j l. ap (λ x. eqb x (getD b i 0)) (h j (omega arith))))
+
 -- ---- a list passes question 6 exactly when it is a permutation
 
 pub passes-permutation : (es : List ℕ) → firstBadEntry es ≡ length es → IsPermutation (length es) es
@@ -61,8 +67,8 @@ passes-permutation es e =
     apart i j li lj q (no l) (yes m) = absurd (good-unlike _ es i (all i li) j m (sym q))
     apart i j li lj q (no l) (no m) = omega arith
 
-pub permutation-passes : {n : ℕ} {es : List ℕ} → IsPermutation n es → firstBadEntry es ≡ length es
-permutation-passes {n} {es} P =
+pub permutation-passes : (n : ℕ) (es : List ℕ) → IsPermutation n es → firstBadEntry es ≡ length es
+permutation-passes n es P =
     none-bad (goodEntry (length es) es) (length es)
     (λ i l. good-when _ es i (omega (arith, P .whole, P .below i (omega (arith, P .whole))))
     (λ j m q. absurd (omega (arith, P .unlike j i (omega (arith, P .whole)) (omega (arith, P .whole)) q))))

@@ -48,6 +48,11 @@ module _ (test : ℕ → Bool) where
   all-fail zero h = refl
   all-fail (suc n) h = rw (h n (omega arith), all-fail n (λ i l. h i (omega arith)))
 
+pub same-count : (f g : ℕ → Bool) (n : ℕ) → ((i : ℕ) → i < n → f i ≡ g i) → howMany f n ≡ howMany g n
+unfolding howMany
+same-count f g zero h = refl
+same-count f g (suc n) h = rw (same-count f g n (λ i l. h i (omega arith)), h n (omega arith))
+
 -- one index more of a sweep for the first bad one: it counts where it is good and all before are
 pub one-swept : (good : ℕ → Bool) (i : ℕ) → firstBad good i + bit (good i && eqb (firstBad good i) i) ≡ firstBad good (i + 1)
 one-swept good i = go (good i) refl (decLt (firstBad good i) i)

@@ -1,5 +1,6 @@
 -- The permutation record and its calls (01: open order, a record by value of the length and 1,024 entries, those past the
 -- length 0). Assumes nothing: these are definitions.
+use mathlib.Core.Path.{_≡_}
 use mathlib.Core.Bool.{Bool, _&&_, cond}
 use mathlib.Core.List.{List, [], _∷_, _++_}
 use Prim.Native.Nat.{ℕ, _-_}
@@ -31,6 +32,10 @@ goodInRecord n es i = cond (ltb i n) (goodEntry n es i) (eqb (getD es i 0) 0)
 -- 1 and 6 of a record handed in
 abbrev pub questionsOf : Permutation → List Question
 questionsOf p = ask 1 0 (leb (p .length) 1024) ∷ askEach 6 (goodInRecord (p .length) (p .entries)) 1024 ∷ []
+
+-- a record that passes them
+abbrev pub WellFormed : Permutation → Type 0
+WellFormed p = firstNo (questionsOf p) ≡ allYes
 
 -- 01: with records handed in 1 and 6 of each, first record first, then 14 or 15
 abbrev pub exchangeAsks : Permutation → ℕ → ℕ → List Question
