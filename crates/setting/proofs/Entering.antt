@@ -1,7 +1,7 @@
 -- Before the halves: the rounds and step 4 bring each item to the half that the settled input bits send it to (two places
 -- need neither), and step 5 leaves the orders of the halves there, with the sides on the trails.
 -- Assumes nothing.
-use mathlib.Core.Path.{_≡_, refl, sym, ap, _∙_}
+use mathlib.Core.Path.{_≡_, refl, sym, ap, _∙_, subst}
 use mathlib.Core.Bool.{Bool, cond}
 use mathlib.Core.List.{List, []}
 use Prim.Native.Nat.{ℕ, _+_, _-_, _*_, _≤_, _<_}
@@ -18,6 +18,7 @@ use Rattle.permutation.specs.Permutations.{IsPermutation}
 use Rattle.canonical.specs.Rule.{held, half, Apart, LowestStraight, Bits}
 use Rattle.canonical.proofs.Halves.{feeder}
 use Rattle.canonical.proofs.Held.{entry-in}
+use Rattle.canonical.proofs.Setting.{walk-settles}
 use Rattle.steps.specs.Sweeps.{act, each}
 use Rattle.steps.specs.State.{State, Subnetwork}
 use Rattle.steps.specs.Steps.{digit, step4, step5}
@@ -37,18 +38,10 @@ pub record Parted (w : Wiring) (m : ℕ) (o input : List ℕ) : Type 0 where
   pub lowest : LowestStraight w (up m) o input
 
 -- two places have one pair, the last: nothing is to be settled
-two-parted : (w : Wiring) (o : List ℕ) → Parted w 2 o []
-unfolding Bits Apart LowestStraight half
-two-parted w o =
-    record {
-      count = refl;
-      bits = λ i l. absurd (omega arith);
-      apart = λ p q H e.
-          let z : p .0 ≡ q .0 = omega (arith, H .first-below, H .second-below) in
-          let s : p ≡ q = λ i. (z i, e i) in
-          H .two-sides (ap (λ (r : Side). held w 1 o r .1) s);
-      lowest = λ i l apart lowest. refl;
-    }
+two-parted : {w : Wiring} → Lawful w → (o : List ℕ) → IsPermutation 2 o → Parted w 2 o []
+two-parted L o O =
+    let S = walk-settles L 2 (omega arith) o O in
+    record { count = refl; bits = S .input-bits; apart = S .apart; lowest = S .lowest-straight }
 
 module _ {w : Wiring} (L : Lawful w) (N : Subnetwork) (U : Unlike (N .size) (N .place)) (two : 2 ≤ N .size) (o : List ℕ)
     (O : IsPermutation (N .size) o) (x : State) (H : Holding N o x) where
@@ -92,7 +85,7 @@ module _ {w : Wiring} (L : Lawful w) (N : Subnetwork) (U : Unlike (N .size) (N .
   unfolding half
   small e =
       record {
-        parted = rw (no-input e, e) (two-parted w o);
+        parted = rw (no-input e) (subst (λ n. IsPermutation n o → Parted w n o []) (sym e) (two-parted L o) O);
         framed = framed-same N (N .bit) (k - 1) x (H .unmarked);
         sides = λ i t l. rw (no-input e) l;
         value-at = λ i t l. rw (no-input e);
@@ -154,8 +147,8 @@ module _ {w : Wiring} (L : Lawful w) (N : Subnetwork) (U : Unlike (N .size) (N .
             record {
               count = input-count L N some o O x ready (λ j _. H .unmarked j);
               bits = input-bits L N some o O x ready (λ j _. H .unmarked j);
-              apart = input-apart L N some o O x ready (λ j _. H .unmarked j);
-              lowest = input-lowest L N some o O x ready (λ j _. H .unmarked j);
+              apart = input-apart L N some o O x ready (λ j _. H .unmarked j) two;
+              lowest = input-lowest L N some o O x ready (λ j _. H .unmarked j) two;
             };
         framed =
             record {

@@ -3,7 +3,7 @@
 -- Assumes nothing.
 use mathlib.Core.Path.{_≡_, refl, sym, ap, _∙_, subst}
 use mathlib.Core.Logic.{_≢_, inl, inr}
-use mathlib.Core.Bool.{Bool, true, false, not, cond}
+use mathlib.Core.Bool.{Bool, true, false}
 use mathlib.Core.List.{List}
 use Prim.Native.Nat.{ℕ, _+_, _-_, _*_, _/_, _%_, _≤_, _<_}
 use native.Mathlib.Omega.{arith}
@@ -14,10 +14,9 @@ use Rattle.network.specs.Wiring.{Wiring, Lawful, Side}
 use Rattle.network.specs.Network.{down}
 use Rattle.permutation.specs.Permutations.{IsPermutation}
 use Rattle.canonical.specs.Rule.{held, half, Apart, Finished}
-use Rattle.canonical.proofs.Sides.{other}
-use Rattle.canonical.proofs.Rings.{Proper}
-use Rattle.canonical.proofs.Halves.{fits, proper, out-law}
-use Rattle.canonical.proofs.Held.{entry-in, entry-past, held-at, held-below, mate, mate-below, mate-holds}
+use Rattle.canonical.proofs.Halves.{feeder, feeder-enters, fits, out-law}
+use Rattle.canonical.proofs.Steps.{sides-finish}
+use Rattle.canonical.proofs.Held.{entry-in, entry-past, held-at, held-below}
 use Rattle.canonical.proofs.Held.{seat, seat-below, seat-holds}
 use Rattle.steps.specs.Sweeps.{act, each}
 use Rattle.steps.specs.State.{State, Subnetwork, outputBit}
@@ -111,33 +110,9 @@ module _ {w : Wiring} (L : Lawful w) (N : Subnetwork) (U : Unlike (N .size) (N .
         ∙ last-digit (t (w .enc k p)) (held w k o p .1)
 
     pub finished : Finished w (N .size) o input output
-    unfolding Finished Proper half
-    finished j lj p l e = go (half input p) refl
-      where
-        j-is : held w k o p .0 ≡ j
-        j-is = ap (λ (v : Side). v .0) e
-
-        q : Side
-        q = mate w k o p
-
-        q-holds : held w k o q ≡ (j, false)
-        q-holds = mate-holds L k m (fits L m some o O) o O p l ∙ ap other e
-
-        j-q : held w k o q .0 ≡ j
-        j-q = ap (λ (v : Side). v .0) q-holds
-
-        go : (s : Bool) → half input p ≡ s → getD output j 0 ≡ cond (half input p) 0 1
-        go false s =
-            rw s
-            (ap (λ i. getD output i 0) (sym j-is)
-            ∙ from-top p l (rw j-is lj) s
-            ∙ ap (λ (v : Side). digit (v .1)) e)
-        go true s =
-            rw s
-            (ap (λ i. getD output i 0) (sym j-q)
-            ∙ from-top q (mate-below L k m (fits L m some o O) o O p l) (rw j-q lj)
-            (proper L m some o O input count A p l ∙ ap not s)
-            ∙ ap (λ (v : Side). digit (v .1)) q-holds)
+    finished =
+        sides-finish L m some o O input count A output
+        (λ i l d. from-top (feeder input false i) l d (feeder-enters input false i))
 
     -- the switches act: each item comes to the side of its value
     abbrev values′ : List ℕ

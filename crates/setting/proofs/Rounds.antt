@@ -1,25 +1,24 @@
 -- k rounds of steps 1, 2 and 3 settle the input bits of a network as the rule asks, and touch nothing else but the marks.
 -- Assumes nothing.
-use mathlib.Core.Path.{_≡_, refl, sym, ap, _∙_}
+use mathlib.Core.Path.{_≡_, refl, sym, _∙_}
 use mathlib.Core.Logic.{_≢_, _⊎_, inl, inr}
 use mathlib.Core.Bool.{Bool, true, false}
 use mathlib.Core.List.{List}
 use Prim.Native.Nat.{ℕ, zero, suc, _+_, _-_, _≤_, _<_}
 use native.Mathlib.Omega.{arith}
 use native.Mathlib.Decide.{decLt}
-use lib.Dec.{eqb}
-use lib.ListN.{length, getD, List·getD-eq-default}
+use lib.ListN.{length, getD}
 use borrow.Author.Tests.{lt-ltb, eqb-true}
 use Rattle.counts.specs.Counts.{up}
 use Rattle.network.specs.Wiring.{Wiring, Lawful}
 use Rattle.permutation.specs.Permutations.{IsPermutation}
 use Rattle.canonical.specs.Rule.{Apart, LowestStraight, Bits}
-use Rattle.canonical.proofs.Sides.{clash}
-use Rattle.canonical.proofs.Rings.{Matching, Proper, Ruled, proper-same, ruled-same}
+use Rattle.canonical.proofs.Sides.{clash, bitAt, bitAt-past}
+use Rattle.canonical.proofs.Rings.{Matching}
 use Rattle.canonical.proofs.Round.{Stage, Begun, Round, Done}
-use Rattle.canonical.proofs.Rounds.{all-rounds, done-proper, done-ruled}
-use Rattle.canonical.proofs.Held.{mate, mate-below, matching, proper-apart, ruled-lowest}
-use Rattle.canonical.proofs.Walk.{bitAt}
+use Rattle.canonical.proofs.Rounds.{all-rounds}
+use Rattle.canonical.proofs.Held.{mate, mate-below, matching}
+use Rattle.canonical.proofs.Setting.{done-apart, done-lowest}
 use Rattle.steps.specs.Sweeps.{marked, noneMarked}
 use Rattle.steps.specs.State.{State, Subnetwork}
 use Rattle.steps.specs.Steps.{step1, step2, step3}
@@ -213,29 +212,17 @@ module _ {w : Wiring} (L : Lawful w) (N : Subnetwork) (some : 0 < N .size) (o : 
         let h : suc i < k = omega (arith, input-count) in
         rw (input-at i h) (kept k .digits i h (all-marked i (omega arith)))
 
-    same-bit : (i : ℕ) → i < k → stage L N some o O (step1 w N after) .bit i ≡ bitAt input i
+    same-bit : (i : ℕ) → i < k → at k .bit i ≡ bitAt input i
     unfolding step1
     same-bit i l = go (decLt (suc i) k)
       where
-        go : Dec (suc i < k) → stage L N some o O (step1 w N after) .bit i ≡ bitAt input i
+        go : Dec (suc i < k) → at k .bit i ≡ bitAt input i
         go (yes h) = rw (all-marked i l, lt-ltb (suc i) k h, input-at i h)
         go (no h) =
-            done .last-straight i (omega arith)
-            ∙ sym (ap (λ b. eqb b 1) (List·getD-eq-default input 0 {n = i} (omega (arith, input-count))))
+            done .last-straight i (omega arith) ∙ sym (bitAt-past input i (omega (arith, input-count)))
 
-    settled-bit : ℕ → Bool
-    settled-bit = stage L N some o O (step1 w N after) .bit
+    pub input-apart : 2 ≤ N .size → Apart w k o input
+    input-apart two = done-apart L (N .size) two o O (at k) done input input-count input-bits same-bit
 
-    proper : Proper k (mate w k o) (bitAt input)
-    unfolding settled-bit
-    proper = proper-same k (mate w k o) settled-bit (bitAt input) same-bit pairs (done-proper k (mate w k o) _ done)
-
-    ruled : Ruled k (mate w k o) (bitAt input)
-    unfolding settled-bit
-    ruled = ruled-same k (mate w k o) settled-bit (bitAt input) same-bit (done-ruled k (mate w k o) _ done)
-
-    pub input-apart : Apart w k o input
-    input-apart = proper-apart L k (N .size) (omega arith) o O input proper
-
-    pub input-lowest : LowestStraight w k o input
-    input-lowest = ruled-lowest L k (N .size) (omega arith) o O input (omega (arith, input-count)) input-bits ruled
+    pub input-lowest : 2 ≤ N .size → LowestStraight w k o input
+    input-lowest two = done-lowest L (N .size) two o O (at k) done input input-count input-bits same-bit

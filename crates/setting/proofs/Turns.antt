@@ -11,9 +11,10 @@ use lib.ListN.{length, getD, List·getD-eq-default}
 use Rattle.counts.specs.Counts.{up}
 use Rattle.network.specs.Wiring.{Wiring, Lawful, Side}
 use Rattle.network.specs.Network.{down}
+use Rattle.network.proofs.Places.{enc-apart}
 use Rattle.canonical.specs.Rule.{half}
 use Rattle.steps.specs.Sweeps.{act}
-use Rattle.steps.proofs.Places.{Unlike, sizeOf, half-below, real, enc-inj}
+use Rattle.steps.proofs.Places.{Unlike, sizeOf, half-below, real}
 use Rattle.steps.proofs.Sweeps.{SidesUnlike, act-at, act-off}
 use Rattle.setting.proofs.Parts.{part, length-part, part-at}
 
@@ -44,7 +45,7 @@ module _ {w : Wiring} (L : Lawful w) (m : ℕ) (place : ℕ → ℕ) (U : Unlike
   unlike : SidesUnlike c at
   unfolding SidesUnlike Unlike
   unlike p q lp lq e =
-      enc-inj w L (up m) p q (omega arith) (omega arith)
+      enc-apart L (up m) p q (omega arith) (omega arith)
       (U _ _ (real w L m (p .1) (p .0) (below (p .1) (p .0) lp)) (real w L m (q .1) (q .0) (below (q .1) (q .0) lq)) e)
 
   module _ (xs : List ℕ) where
@@ -67,5 +68,5 @@ module _ {w : Wiring} (L : Lawful w) (m : ℕ) (place : ℕ → ℕ) (U : Unlike
             apart : (p : Side) → p .0 < c → at (i, t) ≡ at p → i ≡ p .0
             apart p lp e =
                 ap (λ (q : Side). q .0)
-                (enc-inj w L (up m) (i, t) p (half-below m t i l) (omega arith)
+                (enc-apart L (up m) (i, t) p (half-below m t i l) (omega arith)
                 (U _ _ (real w L m t i l) (real w L m (p .1) (p .0) (below (p .1) (p .0) lp)) e))

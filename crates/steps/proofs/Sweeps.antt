@@ -12,8 +12,8 @@ use lib.ListN.{length, getD, set, length-set}
 use lib.Seq.{getD-set-same, getD-set-other}
 use borrow.Author.Tests.{lt-ltb, le-ltb, eq-eqb, ne-eqb}
 use Rattle.network.specs.Wiring.{Side}
-use Rattle.network.specs.Move.{switch}
 use Rattle.network.proofs.Shape.{length-switch}
+use Rattle.network.proofs.Places.{switch-first, switch-second, switch-other}
 use Rattle.steps.specs.Sweeps.{look, seek, store, each, act}
 use Rattle.steps.proofs.Places.{Unlike}
 
@@ -53,31 +53,6 @@ module _ (place : ℕ → ℕ) (F : ℕ → ℕ → ℕ) (xs : List ℕ) where
 
 -- ---- switches
 
-module _ (p q bit : ℕ) (xs : List ℕ) where
-  switch-off : (z : ℕ) → z ≢ p → z ≢ q → getD (switch 0 p q bit xs) z 0 ≡ getD xs z 0
-  unfolding switch
-  switch-off z a b = go (eqb bit 1)
-    where
-      go : (t : Bool) → getD (cond t (set (set xs p (getD xs q 0)) q (getD xs p 0)) xs) z 0 ≡ getD xs z 0
-      go true = getD-set-other (set xs p (getD xs q 0)) q z _ 0 b ∙ getD-set-other xs p z _ 0 a
-      go false = refl
-
-  switch-lower : p ≢ q → p < length xs → getD (switch 0 p q bit xs) p 0 ≡ getD xs (cond (eqb bit 1) q p) 0
-  unfolding switch
-  switch-lower d l = go (eqb bit 1)
-    where
-      go : (t : Bool) → getD (cond t (set (set xs p (getD xs q 0)) q (getD xs p 0)) xs) p 0 ≡ getD xs (cond t q p) 0
-      go true = getD-set-other (set xs p (getD xs q 0)) q p _ 0 d ∙ getD-set-same xs p _ 0 l
-      go false = refl
-
-  switch-upper : q < length xs → getD (switch 0 p q bit xs) q 0 ≡ getD xs (cond (eqb bit 1) p q) 0
-  unfolding switch
-  switch-upper l = go (eqb bit 1)
-    where
-      go : (t : Bool) → getD (cond t (set (set xs p (getD xs q 0)) q (getD xs p 0)) xs) q 0 ≡ getD xs (cond t p q) 0
-      go true = getD-set-same (set xs p (getD xs q 0)) q _ 0 (omega (arith, length-set xs p (getD xs q 0)))
-      go false = refl
-
 -- a side turned over where the bit is 1
 abbrev pub turned : ℕ → Bool → Bool
 turned bit t = cond (eqb bit 1) (not t) t
@@ -96,7 +71,7 @@ module _ (at : Side → ℕ) (bits : List ℕ) (b : ℕ) (xs : List ℕ) where
   unfolding act
   act-off zero z d = refl
   act-off (suc c) z d =
-      switch-off (at (c, false)) (at (c, true)) (getD bits (b + c) 0) (act at bits b c xs) z
+      switch-other 0 (at (c, false)) (at (c, true)) (getD bits (b + c) 0) (act at bits b c xs) z
       (d (c, false) (omega arith))
       (d (c, true) (omega arith))
       ∙ act-off c z (λ p l. d p (omega arith))
@@ -133,14 +108,14 @@ module _ (at : Side → ℕ) (bits : List ℕ) (b : ℕ) (xs : List ℕ) where
       pick false u v = still v
 
       last : (u : Bool) → getD (act at bits b (suc c) xs) (at (c, u)) 0 ≡ getD xs (at (c, turned bit u)) 0
-      last false = switch-lower (at (c, false)) (at (c, true)) bit ys two (room′ false) ∙ pick (eqb bit 1) true false
-      last true = switch-upper (at (c, false)) (at (c, true)) bit ys (room′ true) ∙ pick (eqb bit 1) false true
+      last false = switch-first 0 (at (c, false)) (at (c, true)) bit ys (room′ false) two ∙ pick (eqb bit 1) true false
+      last true = switch-second 0 (at (c, false)) (at (c, true)) bit ys (room′ true) ∙ pick (eqb bit 1) false true
 
       go : Dec (i ≡ c) → (i < c → getD ys (at (i, t)) 0 ≡ getD xs (at (i, turned (getD bits (b + i) 0) t)) 0)
           → getD (act at bits b (suc c) xs) (at (i, t)) 0 ≡ getD xs (at (i, turned (getD bits (b + i) 0) t)) 0
       go (yes e) ih = rw e (last t)
       go (no n) ih =
-          switch-off (at (c, false)) (at (c, true)) bit ys (at (i, t)) (other n false) (other n true) ∙ ih (omega arith)
+          switch-other 0 (at (c, false)) (at (c, true)) bit ys (at (i, t)) (other n false) (other n true) ∙ ih (omega arith)
 
 -- ---- store, look, seek
 
