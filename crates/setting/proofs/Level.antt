@@ -199,7 +199,9 @@ module _ {w : Wiring} (L : Lawful w) (N : Subnetwork) (U : Unlike (N .size) (N .
           → ((q : ℕ) → c ≤ q → q < c + n → getD (y .bits) q 0 ≡ getD (v .bits) q 0)
           → part c n (y .bits) ≡ part c n (v .bits)
       stays c n v F h same =
-          same-part c n (v .bits) (y .bits) (omega (arith, F .bits-length, H .bits-room)) (to-y .bits-length ∙ sym (F .bits-length)) same
+          same-part c n (v .bits) (y .bits) (omega (arith, F .bits-length, H .bits-room))
+          (to-y .bits-length ∙ sym (F .bits-length))
+          same
 
       input-stays : part (N .bit) (k - 1) (y .bits) ≡ input
       input-stays =

@@ -21,6 +21,13 @@ use Rattle.steps.specs.Run.{subnetworks, names, runEntry, runEntries, ru
 use Rattle.steps.specs.Fold.{roundsOf, inputSteps, setNet}
 use Rattle.steps.proofs.Lookup.{OneOf, Held, Single, halfAt, inTop, only-one}
 
+eqb-itself : (n : ℕ) → eqb n n ≡ true
+eqb-itself n = eq-eqb n n refl
+
+true-both : (a b : Bool) → (a && b) ≡ true → (a ≡ true) × (b ≡ true)
+true-both true b e = (refl, e)
+true-both false b e = absurd (false≢true e)
+
 module _ (w : Wiring) (L : Lawful w) where
   -- an entry does its step on the network that it names, wherever that stands in the list
   looked-up : (Ns : List Subnetwork) (N : Subnetwork) (e : Entry) (x : State) → OneOf Ns N → names e N ≡ true
@@ -76,15 +83,11 @@ module _ (w : Wiring) (L : Lawful w) where
     does kind N x mem = looked-up Ns N (entry kind (N .place 0) (N .size)) x mem itself unique
       where
         itself : names (entry kind (N .place 0) (N .size)) N ≡ true
-        itself = rw (eq-eqb (N .place 0) (N .place 0) refl, eq-eqb (N .size) (N .size) refl)
-
-        both : (a b : Bool) → (a && b) ≡ true → (a ≡ true) × (b ≡ true)
-        both true b e = (refl, e)
-        both false b e = absurd (false≢true e)
+        itself = simp eqb-itself
 
         unique : (M : Subnetwork) → OneOf Ns M → names (entry kind (N .place 0) (N .size)) M ≡ true → M ≡ N
         unique M m e =
-            let h = both (eqb (M .place 0) (N .place 0)) (eqb (M .size) (N .size)) e in
+            let h = true-both (eqb (M .place 0) (N .place 0)) (eqb (M .size) (N .size)) e in
             S M N m mem (eqb-true (M .place 0) (N .place 0) (h .0)) (eqb-true (M .size) (N .size) (h .1))
 
     run-rounds : (N : Subnetwork) → OneOf Ns N → (i : ℕ) (x : State)
