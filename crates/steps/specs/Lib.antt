@@ -3,3 +3,4 @@ pub mod State
 pub mod Steps
 pub mod Sequence
 pub mod Run
+pub mod Fold
