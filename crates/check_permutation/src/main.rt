@@ -5,7 +5,7 @@ mod refusals;
 
 use permutation::Permutation;
 use plain::Tally;
-ghost use Prim.Native.Nat.{_≤_, _<_};
+ghost use Prim.Native.Nat.{_≤_};
 
 // Every list of n entries from 0 to 5, one for each number below `total`: from a list.
 fn check_lists(before: Tally, n: usize, total: usize) -> Tally

@@ -1,6 +1,6 @@
 // A plain second computation: marks and searches, on arrays of 1,024 entries.
 use permutation::Reply;
-ghost use Prim.Native.Nat.{_≤_, _<_};
+ghost use Prim.Native.Nat.{_≤_};
 
 // How many outcomes were compared, and how many were equal.
 pub struct Tally {

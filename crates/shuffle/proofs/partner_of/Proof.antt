@@ -1,6 +1,7 @@
+-- `shuffle::partner_of` meets its contract.
+-- Assumes nothing.
 use borrow.Author.Needs.{needs}
-use mathlib.Core.Path.{_≡_, ap, _∙_}
-use Prim.Native.Nat.{_<_}
+use mathlib.Core.Path.{ap}
 use native.Mathlib.Omega.{arith}
 use Rattle.shuffle.specs.Shuffled.{partner}
 use Rattle.shuffle.proofs.Steps.{partner-below}
