@@ -2,8 +2,8 @@
 -- Assumes nothing.
 use mathlib.Core.Path.{_≡_, refl, sym, ap, _∙_}
 use mathlib.Core.List.{List, [], _∷_, _++_}
-use Prim.Native.Nat.{ℕ, zero, suc, _+_, _-_, _≤_, _<_}
-use native.Mathlib.Nat.{mod-lt}
+use Prim.Native.Nat.{ℕ, zero, suc, _+_, _-_, _≤_, _<_, _%_, _^_}
+use native.Mathlib.Nat.{mod-lt, mod-le}
 use native.Mathlib.Numerals.{add-one}
 use native.Mathlib.Omega.{arith}
 use lib.ListN.{length, getD, set, drop, length-set, List·getD-append}
@@ -40,6 +40,9 @@ module _ (before : List ℕ) (n : ℕ) where
 
 pub partner-below : (n i word : ℕ) → i < n → partner n i word < n
 partner-below n i word l = let p : 0 < n - i = omega arith in omega (arith, mod-lt word p)
+
+pub sum-fits : (i word m : ℕ) → i < 1024 → word < 2 ^ 32 → i + word % m < 2 ^ 64
+sum-fits i word m l h = omega (arith, mod-le word m)
 
 pub stepped-length : (i : ℕ) (words es : List ℕ) → length (stepped i words es) ≡ length es
 unfolding stepped

@@ -27,7 +27,7 @@ fn number(n: usize, out: &mut [u16])
 
 // The place with which place i of n is exchanged.
 fn partner_of(n: usize, i: usize, word: u32) -> usize
-    requires { ⌜ i < n ⌝ }
+    requires { ⌜ (i < n) × (n ≤ 1024) ⌝ }
     ensures { λ r. ⌜ (r ≡ partner n i word) × (r < n) ⌝ }
 {
     i + wide(word) % (n - i)
@@ -35,7 +35,7 @@ fn partner_of(n: usize, i: usize, word: u32) -> usize
 
 // The exchanges of all the words.
 fn exchange(words: &[u32], out: &mut [u16])
-    requires { ⌜ length (now words) ≤ length (now out) ⌝ }
+    requires { ⌜ (length (now words) ≤ length (now out)) × (length (now words) ≤ 1024) ⌝ }
     ensures { λ _. ⌜ now (out .exit) ≡ stepped (length (now (words .entry))) (now (words .entry)) (now (out .entry)) ⌝ }
 {
     let n = words.len();

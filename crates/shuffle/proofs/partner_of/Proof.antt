@@ -4,7 +4,7 @@ use borrow.Author.Needs.{needs}
 use mathlib.Core.Path.{ap}
 use native.Mathlib.Omega.{arith}
 use Rattle.shuffle.specs.Shuffled.{partner}
-use Rattle.shuffle.proofs.Steps.{partner-below}
+use Rattle.shuffle.proofs.Steps.{partner-below, sum-fits}
 use Rattle.shuffle.proofs.partner_of.Statement.{statement}
 use Rattle.shuffle.proofs.partner_of.Tie as tie
 
@@ -18,9 +18,7 @@ rem-result : tie.Need-rem-result
 rem-result c = search needs
 
 add-result : tie.Need-add-result
-add-result c =
-    let a = c .before .args in
-    omega (arith, partner-below (a .n) (a .i) (c .wide .result) (omega arith))
+add-result c = record { fits = sum-fits _ _ _ (omega arith) (omega arith) }
 
 returns : tie.Need-returns
 returns c =
