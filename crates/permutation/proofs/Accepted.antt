@@ -1,22 +1,22 @@
 -- Accepted calls on records: when a call is accepted, and that it then gives a well-formed record.
 -- Assumes nothing.
 use mathlib.Core.Path.{_≡_, refl, sym, ap, _∙_, subst}
-use mathlib.Core.Bool.{Bool, true, false, _&&_}
+use mathlib.Core.Bool.{true}
 use mathlib.Core.List.{List, [], _∷_, _++_}
 use Prim.Native.Nat.{ℕ, _+_, _-_, _≤_, _<_}
 use native.Mathlib.Omega.{arith}
 use native.Mathlib.Decide.{decLt}
-use lib.Dec.{leb, ltb, eqb}
-use lib.ListN.{length, getD, take, replicate, length-append, length-replicate, List·getD-append}
+use lib.Dec.{leb, eqb}
+use lib.ListN.{length, getD, length-append, length-replicate, List·getD-append}
 use lib.Seq.{take-at, getD-append-add}
-use borrow.Author.Tests.{le-leb, lt-ltb, leb-true, ltb-true, eqb-true, eq-eqb}
+use borrow.Author.Tests.{le-leb, eq-eqb}
 use Rattle.answers.specs.Answers.{accepted}
-use Rattle.answers.specs.Questions.{Question, ask, askEach, firstBad, firstNo, allYes}
-use Rattle.answers.proofs.Questions.{asked-yes, none-bad, passed}
-use Rattle.permutation.specs.Permutations.{goodEntry, firstBadEntry, IsPermutation, identity, exchanged, combined, inverted, fixedPoints}
-use Rattle.permutation.specs.Records.{recordOf, listOf, goodInRecord, questionsOf, WellFormed, replied, identityCall, fromListCall, exchangeCall, combineCall, inverseCall, fixedPointsCall}
+use Rattle.answers.specs.Questions.{askEach, firstBad}
+use Rattle.answers.proofs.Questions.{asked-yes, none-bad}
+use Rattle.permutation.specs.Permutations.{IsPermutation, identity, exchanged, combined, inverted, fixedPoints}
+use Rattle.permutation.specs.Records.{recordOf, listOf, goodInRecord, questionsOf, WellFormed, identityCall, fromListCall, exchangeCall, combineCall, inverseCall, fixedPointsCall}
 use Rattle.permutation.specs.declared.Permutation.{Permutation}
-use Rattle.permutation.proofs.Permutations.{good-when, same-good, permutation-passes, passes-permutation}
+use Rattle.permutation.proofs.Permutations.{good-when, same-good, permutation-passes}
 use Rattle.permutation.proofs.Laws.{identity-permutation, exchanged-permutation, combined-permutation}
 use Rattle.permutation.proofs.Inverses.{inverted-permutation}
 use Rattle.permutation.proofs.Records.{good-in-list, good-past, Sound, sound}

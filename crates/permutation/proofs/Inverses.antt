@@ -2,8 +2,8 @@
 -- Assumes nothing.
 use mathlib.Core.Path.{_≡_, refl, sym, ap, _∙_}
 use mathlib.Core.Bool.{Bool, true, false, not}
-use mathlib.Core.List.{List, [], _∷_, _++_}
-use Prim.Native.Nat.{ℕ, zero, suc, _+_, _-_, _≤_, _<_}
+use mathlib.Core.List.{List}
+use Prim.Native.Nat.{ℕ, _<_}
 use native.Mathlib.Omega.{arith}
 use native.Mathlib.Decide.{decLt}
 use lib.Dec.{eqb}
@@ -12,7 +12,7 @@ use borrow.Author.Tests.{eq-eqb, eqb-true, not-true, not-false}
 use Rattle.answers.specs.Questions.{firstBad}
 use Rattle.answers.proofs.Questions.{bad-within, all-good, bad-at}
 use Rattle.permutation.specs.Permutations.{IsPermutation, placeOf, inverted}
-use Rattle.permutation.proofs.Pigeons.{Met, OneToOne, met}
+use Rattle.permutation.proofs.Pigeons.{Met, met}
 use Rattle.permutation.proofs.Tables.{length-tabulate, tabulate-at}
 
 module _ (n : ℕ) (es : List ℕ) (P : IsPermutation n es) where

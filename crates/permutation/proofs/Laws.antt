@@ -2,16 +2,16 @@
 -- Assumes nothing.
 use mathlib.Core.Path.{_≡_, refl, sym, ap, _∙_}
 use mathlib.Core.Logic.{_≢_}
-use mathlib.Core.Bool.{Bool, true, false, cond}
-use mathlib.Core.List.{List, [], _∷_, _++_}
-use Prim.Native.Nat.{ℕ, zero, suc, _+_, _-_, _≤_, _<_}
+use mathlib.Core.Bool.{cond}
+use mathlib.Core.List.{List}
+use Prim.Native.Nat.{ℕ, _<_}
 use native.Mathlib.Omega.{arith}
 use native.Mathlib.Decide.{ℕ-discrete}
 use lib.Dec.{eqb}
 use lib.ListN.{length, getD, set, length-set}
 use lib.Seq.{ext-getD, getD-set-same, getD-set-other}
 use borrow.Author.Tests.{eq-eqb, ne-eqb}
-use Rattle.permutation.specs.Permutations.{IsPermutation, tabulate, identity, exchanged, combined, inverted, placeOf}
+use Rattle.permutation.specs.Permutations.{IsPermutation, identity, exchanged, combined, inverted}
 use Rattle.permutation.proofs.Tables.{length-tabulate, tabulate-at, is-tabulate}
 use Rattle.permutation.proofs.Inverses.{inverted-permutation, inverted-of-entry, entry-of-inverted}
 

@@ -1,23 +1,22 @@
 -- The permutation record: it passes questions 1 and 6 exactly when it is the record of a permutation.
 -- Assumes nothing.
-use mathlib.Core.Path.{_≡_, refl, sym, ap, _∙_}
-use mathlib.Core.Logic.{_≢_}
-use mathlib.Core.Bool.{Bool, true, false, cond}
+use mathlib.Core.Path.{_≡_, sym, ap, _∙_}
+use mathlib.Core.Bool.{Bool, true}
 use mathlib.Core.List.{List, [], _∷_, _++_}
-use Prim.Native.Nat.{ℕ, zero, suc, _+_, _-_, _≤_, _<_}
+use Prim.Native.Nat.{ℕ, _+_, _-_, _≤_, _<_}
 use native.Mathlib.Omega.{arith}
 use native.Mathlib.Decide.{decLt}
-use lib.Dec.{leb, ltb, eqb}
-use lib.ListN.{length, getD, set, take, drop, replicate, length-append, length-drop, length-replicate, getD-replicate, length-set, take-append-drop, List·getD-append, List·getD-eq-default}
-use lib.Seq.{ext-getD, length-take-le, getD-take, getD-drop, take-at, drop-at, getD-append-add, getD-set-same, getD-set-other, take-set-lt}
-use borrow.Author.Tests.{leb-true, le-leb, lt-ltb, le-ltb, eqb-true, eq-eqb}
-use Rattle.answers.specs.Questions.{ask, askEach, firstBad, firstNo, allYes}
-use Rattle.answers.proofs.Questions.{passed, asked-yes, all-good, none-bad}
+use lib.Dec.{leb, eqb}
+use lib.ListN.{length, getD, set, take, drop, replicate, length-drop, length-replicate, getD-replicate, length-set, take-append-drop, List·getD-eq-default}
+use lib.Seq.{ext-getD, length-take-le, getD-take, getD-drop, getD-set-other, take-set-lt}
+use borrow.Author.Tests.{leb-true, lt-ltb, le-ltb, eqb-true}
+use Rattle.answers.specs.Questions.{askEach, firstBad}
+use Rattle.answers.proofs.Questions.{passed, all-good, none-bad}
 use Rattle.permutation.specs.Permutations.{goodEntry, firstBadEntry, IsPermutation, exchanged}
-use Rattle.permutation.specs.Records.{recordOf, listOf, goodInRecord, questionsOf, WellFormed}
+use Rattle.permutation.specs.Records.{recordOf, listOf, goodInRecord, WellFormed}
 use Rattle.permutation.specs.declared.Permutation.{Permutation}
 use Rattle.permutation.proofs.Sweeps.{same-bad}
-use Rattle.permutation.proofs.Permutations.{same-good, passes-permutation, permutation-passes}
+use Rattle.permutation.proofs.Permutations.{same-good, passes-permutation}
 
 -- ---- question 6 of a record: first of its list, then past it
 

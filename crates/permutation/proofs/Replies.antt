@@ -2,20 +2,20 @@
 -- Assumes nothing.
 use mathlib.Core.Path.{_≡_, refl, sym, ap, _∙_}
 use mathlib.Core.Logic.{_≢_}
-use mathlib.Core.Bool.{Bool, true, false, _&&_}
+use mathlib.Core.Bool.{_&&_}
 use mathlib.Core.List.{List, [], _∷_, _++_}
 use Prim.Native.Nat.{ℕ, _≤_, _<_}
 use native.Mathlib.Omega.{arith}
-use lib.Dec.{leb, ltb, eqb}
+use lib.Dec.{ltb, eqb}
 use lib.ListN.{length}
 use borrow.Author.Tests.{le-leb, lt-leb, le-ltb, lt-ltb, eq-eqb, ne-eqb}
 use Rattle.answers.specs.declared.Answer.{Answer}
 use Rattle.answers.specs.Answers.{refusal, accepted}
 use Rattle.answers.specs.Questions.{Question, ask, askEach, firstBad, Verdict, allYes, noAt, firstNo}
 use Rattle.answers.specs.Outcomes.{answerOf}
-use Rattle.answers.proofs.Outcomes.{Numbered, accepted-when}
+use Rattle.answers.proofs.Outcomes.{accepted-when}
 use Rattle.answers.proofs.Questions.{asked-yes, asked-no, asked-both, asked-first, bad-within}
-use Rattle.permutation.specs.Permutations.{goodEntry, firstBadEntry, tabulate, identity, exchanged, combined, inverted, fixedPoints}
+use Rattle.permutation.specs.Permutations.{goodEntry, firstBadEntry, tabulate, identity, exchanged, combined}
 use Rattle.permutation.specs.Records.{recordOf, listOf, goodInRecord, questionsOf, WellFormed, exchangeAsks, combineAsks, replied, identityCall, fromListCall, exchangeCall, combineCall}
 use Rattle.permutation.specs.declared.Permutation.{Permutation}
 use Rattle.permutation.specs.declared.Reply.{Reply}

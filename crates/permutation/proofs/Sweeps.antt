@@ -1,8 +1,7 @@
 -- Sweeps over indices: counting, and the first bad one.
 -- Assumes nothing.
 use mathlib.Core.Path.{_≡_, refl, sym, ap, _∙_}
-use mathlib.Core.Bool.{Bool, true, false, _&&_, and-false, and-true}
-use mathlib.Core.List.{List}
+use mathlib.Core.Bool.{Bool, true, false, _&&_, and-false}
 use Prim.Native.Nat.{ℕ, zero, suc, _+_, _≤_, _<_}
 use native.Mathlib.Numerals.{add-one}
 use native.Mathlib.Omega.{arith}
@@ -10,7 +9,7 @@ use native.Mathlib.Decide.{decLt, ℕ-discrete}
 use lib.Dec.{eqb}
 use borrow.Author.Tests.{eq-eqb, ne-eqb}
 use Rattle.answers.specs.Questions.{firstBad, firstBadFrom}
-use Rattle.answers.proofs.Questions.{bad-within, bad-counts, bad-stops, bad-stays, all-good, none-bad}
+use Rattle.answers.proofs.Questions.{bad-within, bad-counts, bad-stops, bad-stays, none-bad}
 use Rattle.permutation.specs.Permutations.{bit, howMany}
 
 pub bit-small : (b : Bool) → bit b ≤ 1

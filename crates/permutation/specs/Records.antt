@@ -6,7 +6,6 @@ use mathlib.Core.List.{List, [], _∷_, _++_}
 use Prim.Native.Nat.{ℕ, _-_}
 use lib.Dec.{leb, ltb, eqb}
 use lib.ListN.{length, getD, take, replicate}
-use Rattle.answers.specs.declared.Answer.{Answer}
 use Rattle.answers.specs.Questions.{Question, ask, askEach, Verdict, allYes, noAt, firstNo}
 use Rattle.answers.specs.Outcomes.{answerOf}
 use Rattle.permutation.specs.Permutations.{goodEntry, identity, exchanged, combined, inverted, fixedPoints}

@@ -1,13 +1,12 @@
 // Question 6 of a list of entries, and the permutation record (01: open order).
 ghost use mathlib.Core.Path.{_≡_};
 ghost use mathlib.Core.Bool.{_&&_};
-ghost use mathlib.Core.List.{[], _++_};
-ghost use Prim.Native.Nat.{ℕ, _+_, _-_, _≤_, _<_};
-ghost use lib.Dec.{eqb, ltb};
-ghost use lib.ListN.{length, getD, take, replicate};
+ghost use Prim.Native.Nat.{_+_, _≤_, _<_};
+ghost use lib.Dec.{eqb};
+ghost use lib.ListN.{length};
 ghost use Rattle.answers.specs.Questions.{firstBad, firstNo};
 ghost use Rattle.answers.specs.Outcomes.{answerOf};
-ghost use Rattle.permutation.specs.Permutations.{bit, matches, goodEntry, firstBadEntry, IsPermutation, identity, exchanged, combined, inverted, fixedPoints};
+ghost use Rattle.permutation.specs.Permutations.{bit, matches, firstBadEntry, IsPermutation, identity, exchanged, combined, inverted, fixedPoints};
 ghost use Rattle.permutation.specs.Records.{goodInRecord, questionsOf, WellFormed, recordOf, listOf, identityCall, fromListCall, exchangeCall, combineCall, inverseCall, fixedPointsCall};
 
 // A permutation of 0 .. length - 1 by value; the entries past the length are 0. Any record can arrive: the fields are
@@ -77,6 +76,15 @@ fn build(length: usize, entries: [u16; 1024]) -> Permutation
     ensures { λ r. ⌜ r ≡ record { length = length; entries = entries } ⌝ }
 {
     Permutation { length, entries }
+}
+
+fn give(answer: answers::Answer, permutation: Permutation) -> Reply
+    ensures { λ r. ⌜ r ≡ record { answer = answer; permutation = permutation } ⌝ }
+{
+    Reply {
+        answer,
+        permutation,
+    }
 }
 
 // Question 6 of a record: its list, and past that nothing but 0. 1,024 where nothing is bad.
@@ -150,7 +158,8 @@ fn exchanged_record(p: Permutation, i: usize, j: usize) -> Permutation
     build(p.length, e)
 }
 
-// The calls below keep no log, so 01 asks for no secrecy of their indices: `combined_record` and `inverted_record` index by an entry.
+// The calls on records keep no log, and 01 asks only of calls that do that no index depends on an entry: the two below
+// index by one.
 
 fn combined_record(first: Permutation, second: Permutation) -> Permutation
     requires { ⌜ (first .length ≤ 1024) × (first .length ≡ second .length) × IsPermutation (first .length) (listOf first) ⌝ }
@@ -175,14 +184,14 @@ fn inverted_record(p: Permutation) -> Permutation
 {
     let n = p.length;
     let f = p.entries;
-    let mut e = [0u16; 1024];
+    let mut back = [0u16; 1024];
     let mut i = 0;
     while i < n {
         let k = wide(f[i]);
-        e[k] = i as u16;
+        back[k] = i as u16;
         i += 1;
     }
-    build(n, e)
+    build(n, back)
 }
 
 fn count_fixed(p: Permutation) -> usize
@@ -206,37 +215,22 @@ impl Permutation {
         ensures { λ r. ⌜ r ≡ identityCall n ⌝ }
     {
         if 1024 < n {
-            return Reply {
-                answer: answers::refuse(1, 0),
-                permutation: identity_record(0),
-            };
+            return give(answers::refuse(1, 0), identity_record(0));
         }
-        Reply {
-            answer: answers::accept(0),
-            permutation: identity_record(n),
-        }
+        give(answers::accept(0), identity_record(n))
     }
 
     pub fn from_list(list: &[u16]) -> Reply
         ensures { λ r. ⌜ r ≡ fromListCall (now (list .entry)) ⌝ }
     {
         if 1024 < list.len() {
-            return Reply {
-                answer: answers::refuse(1, 0),
-                permutation: identity_record(0),
-            };
+            return give(answers::refuse(1, 0), identity_record(0));
         }
         let low = first_bad_entry(list);
         if low < list.len() {
-            return Reply {
-                answer: answers::refuse(6, low),
-                permutation: identity_record(0),
-            };
+            return give(answers::refuse(6, low), identity_record(0));
         }
-        Reply {
-            answer: answers::accept(0),
-            permutation: list_record(list),
-        }
+        give(answers::accept(0), list_record(list))
     }
 
     pub fn exchange(self, i: usize, j: usize) -> Reply
@@ -244,27 +238,15 @@ impl Permutation {
     {
         let asked = examine(self);
         if asked.number != 0 {
-            return Reply {
-                answer: asked,
-                permutation: self,
-            };
+            return give(asked, self);
         }
         if self.length <= i {
-            return Reply {
-                answer: answers::refuse(14, 0),
-                permutation: self,
-            };
+            return give(answers::refuse(14, 0), self);
         }
         if self.length <= j {
-            return Reply {
-                answer: answers::refuse(14, 0),
-                permutation: self,
-            };
+            return give(answers::refuse(14, 0), self);
         }
-        Reply {
-            answer: asked,
-            permutation: exchanged_record(self, i, j),
-        }
+        give(asked, exchanged_record(self, i, j))
     }
 
     // First self, then second: entry i is second[self[i]].
@@ -273,28 +255,16 @@ impl Permutation {
     {
         let asked = examine(self);
         if asked.number != 0 {
-            return Reply {
-                answer: asked,
-                permutation: self,
-            };
+            return give(asked, self);
         }
         let then = examine(second);
         if then.number != 0 {
-            return Reply {
-                answer: then,
-                permutation: self,
-            };
+            return give(then, self);
         }
         if self.length != second.length {
-            return Reply {
-                answer: answers::refuse(15, 0),
-                permutation: self,
-            };
+            return give(answers::refuse(15, 0), self);
         }
-        Reply {
-            answer: answers::accept(0),
-            permutation: combined_record(self, second),
-        }
+        give(answers::accept(0), combined_record(self, second))
     }
 
     pub fn inverse(self) -> Reply
@@ -302,15 +272,9 @@ impl Permutation {
     {
         let asked = examine(self);
         if asked.number != 0 {
-            return Reply {
-                answer: asked,
-                permutation: self,
-            };
+            return give(asked, self);
         }
-        Reply {
-            answer: asked,
-            permutation: inverted_record(self),
-        }
+        give(asked, inverted_record(self))
     }
 
     // The number of entries that stay home, as the count of the answer; the record comes back as it was handed in.
@@ -319,14 +283,8 @@ impl Permutation {
     {
         let asked = examine(self);
         if asked.number != 0 {
-            return Reply {
-                answer: asked,
-                permutation: self,
-            };
+            return give(asked, self);
         }
-        Reply {
-            answer: answers::accept(count_fixed(self)),
-            permutation: self,
-        }
+        give(answers::accept(count_fixed(self)), self)
     }
 }

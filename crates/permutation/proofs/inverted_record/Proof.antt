@@ -1,39 +1,32 @@
+-- `permutation::inverted_record` meets its contract.
+-- Assumes nothing.
 use Rattle.permutation.specs.Permutations.{IsPermutation}
 use Rattle.permutation.specs.Records.{listOf}
 use borrow.Author.Needs.{needs}
-use mathlib.Core.Path.{_≡_, refl, sym, ap, _∙_}
-use Prim.Native.Nat.{_+_, _-_, _≤_, _<_}
+use mathlib.Core.Path.{refl, sym, _∙_}
+use Prim.Native.Nat.{_-_, _<_}
 use native.Mathlib.Omega.{arith}
-use lib.Dec.{eqb}
 use lib.ListN.{length, getD, take}
-use lib.Seq.{getD-take, length-take-le}
-use Rattle.permutation.proofs.Fillings.{Filling, filling-starts, filling-more, filled, filled-back, combined-read}
+use lib.Seq.{getD-take}
+use Rattle.permutation.proofs.Fillings.{Filling, filling-starts, filling-more, filled-back}
 use Rattle.permutation.proofs.inverted_record.Statement.{statement}
 use Rattle.permutation.proofs.inverted_record.Tie as tie
-use Rattle.permutation.proofs.inverted_record.Reads as reads
-use Rattle.permutation.proofs.inverted_record.Lts as lts
-use Rattle.permutation.proofs.build.Reads as build-reads
-use Rattle.permutation.proofs.wide.Reads as wide-reads
 
 abbrev Inv-loop : tie.InvT-loop
-Inv-loop n f e₀ i₀ e i = Filling (λ j. getD (take n f) j 0) (λ j. j) n e i
+Inv-loop n f back₀ i₀ back i = Filling (λ j. getD (take n f) j 0) (λ j. j) n back i
 
 abbrev μ-loop : tie.MeasureT-loop
-μ-loop n f e₀ i₀ e i = n - i
+μ-loop n f back₀ i₀ back i = n - i
 
--- src/lib.rt:168:5
 loop-holds : tie.Need-loop-holds Inv-loop μ-loop
 loop-holds c = filling-starts _ _ _
 
--- src/lib.rt:169:22
 mul-wide : tie.Need-mul-wide Inv-loop μ-loop
 mul-wide c = search needs
 
--- src/lib.rt:169:22
 array-read-wide : tie.Need-array-read-wide Inv-loop μ-loop
 array-read-wide c = search needs
 
--- src/lib.rt:169:13
 wide-requires : tie.Need-wide-requires Inv-loop μ-loop
 wide-requires c κs = search needs
 
@@ -45,27 +38,21 @@ entry-below c =
     let i = c .before .before .loop .i in
     omega (arith, c .wide .ensures, P .below i (omega arith), getD-take (p .length) (p .entries) i 0 (omega arith))
 
--- src/lib.rt:170:16
-cast-e : tie.Need-cast-e Inv-loop μ-loop
-cast-e c = search needs
+cast-back : tie.Need-cast-back Inv-loop μ-loop
+cast-back c = search needs
 
--- src/lib.rt:170:9
-mul-e : tie.Need-mul-e Inv-loop μ-loop
-mul-e c = record { fits = omega (arith, entry-below c) }
+mul-back : tie.Need-mul-back Inv-loop μ-loop
+mul-back c = record { fits = omega (arith, entry-below c) }
 
--- src/lib.rt:170:9
-array-write-e : tie.Need-array-write-e Inv-loop μ-loop
-array-write-e c = omega (arith, entry-below c)
+array-write-back : tie.Need-array-write-back Inv-loop μ-loop
+array-write-back c = omega (arith, entry-below c)
 
--- src/lib.rt:171:9
 add-i : tie.Need-add-i Inv-loop μ-loop
 add-i c = search needs
 
--- src/lib.rt:168:5
 loop-less : tie.Need-loop-less Inv-loop μ-loop
 loop-less c = search needs
 
--- src/lib.rt:168:5
 loop-again : tie.Need-loop-again Inv-loop μ-loop
 loop-again c =
     let p = c .before .before .before .before .args .p in
@@ -74,11 +61,9 @@ loop-again c =
     filling-more _ _ _ (omega arith) (omega arith) (c .wide .ensures ∙ sym (getD-take (p .length) (p .entries) i 0 (omega arith))) (entry-below c)
     (λ j l q. omega (arith, P .unlike j i (omega arith) (omega arith) q)) refl (c .before .before .loop .inv)
 
--- src/lib.rt:173:5
 build-requires : tie.Need-build-requires Inv-loop μ-loop
 build-requires c κs = search needs
 
--- src/lib.rt:160:1
 returns : tie.Need-returns Inv-loop μ-loop
 returns c =
     let P : IsPermutation _ _ = c .before .before .before .before .pre .1 in
@@ -94,9 +79,9 @@ inverted-record-spec =
     mul-wide
     array-read-wide
     wide-requires
-    cast-e
-    mul-e
-    array-write-e
+    cast-back
+    mul-back
+    array-write-back
     add-i
     loop-less
     loop-again

@@ -1,3 +1,4 @@
+-- `permutation::sweep` meets its contract.
 -- Assumes nothing.
 use borrow.Author.Needs.{needs}
 use mathlib.Core.Bool.{_&&_}
@@ -6,8 +7,6 @@ use lib.Dec.{eqb}
 use Rattle.permutation.proofs.Sweeps.{bit-small}
 use Rattle.permutation.proofs.sweep.Statement.{statement}
 use Rattle.permutation.proofs.sweep.Tie as tie
-use Rattle.permutation.proofs.sweep.Reads as reads
-use Rattle.permutation.proofs.sweep.Lts as lts
 
 cast-result : tie.Need-cast-result
 cast-result c = search needs

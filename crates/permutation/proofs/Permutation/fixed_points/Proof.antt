@@ -1,6 +1,7 @@
-use mathlib.Core.Path.{_≡_, refl, sym, ap, _∙_}
-use lib.ListN.{length, getD}
-use native.Mathlib.Omega.{arith}
+-- `permutation::Permutation::fixed_points` meets its contract.
+-- Assumes nothing.
+use mathlib.Core.Path.{_≡_, refl, ap, _∙_}
+use lib.ListN.{length}
 use mathlib.Core.List.{[]}
 use Rattle.answers.specs.Answers.{accepted}
 use Rattle.permutation.proofs.Records.{sound}
@@ -8,37 +9,41 @@ use Rattle.permutation.proofs.Replies.{first-stops, passed-record, repl
 use borrow.Author.Needs.{needs}
 use Rattle.permutation.proofs.Permutation.fixed_points.Statement.{statement}
 use Rattle.permutation.proofs.Permutation.fixed_points.Tie as tie
-use Rattle.permutation.proofs.Permutation.fixed_points.Reads as reads
-use Rattle.permutation.proofs.Permutation.fixed_points.Lts as lts
-use Rattle.answers.proofs.accept.Reads as accept-reads
-use Rattle.permutation.proofs.count_fixed.Reads as count-fixed-reads
-use Rattle.permutation.proofs.examine.Reads as examine-reads
 
--- src/lib.rt:320:13
 examine-requires : tie.Need-examine-requires
 examine-requires c κs = search needs
 
--- src/lib.rt:322:13
-returns : tie.Need-returns
-returns c = first-stops _ _ _ [] (c .before .before .examine .ensures) (c .if1 .taken)
+give-requires : tie.Need-give-requires
+give-requires c κs = search needs
 
--- src/lib.rt:328:37
+returns : tie.Need-returns
+returns c = c .give .ensures ∙ first-stops _ _ _ [] (c .before .before .before .examine .ensures) (c .before .if1 .taken)
+
 count-fixed-requires : tie.Need-count-fixed-requires
 count-fixed-requires c κs =
     let p = c .before .before .before .args .self in
     let s : length (p .entries) ≡ 1024 = search needs in
     sound p s (passed-record p (c .before .before .examine .ensures) (c .if1 .left)) .small
 
--- src/lib.rt:328:21
 accept-requires : tie.Need-accept-requires
 accept-requires c κs = search needs
 
--- src/lib.rt:317:5
+give-requires-2 : tie.Need-give-requires-2
+give-requires-2 c κs = search needs
+
 returns-2 : tie.Need-returns-2
 returns-2 c =
-    let w = passed-record (c .before .before .before .before .before .args .self) (c .before .before .before .before .examine .ensures) (c .before .before .if1 .left) in
-    replies-accepted _ _ _ _ w (c .accept .ensures ∙ ap accepted (c .before .count-fixed .ensures)) refl
+    let w = passed-record (c .before .before .before .before .before .before .args .self) (c .before .before .before .before .before .examine .ensures) (c .before .before .before .if1 .left) in
+    c .give2 .ensures ∙ replies-accepted _ _ _ _ w (c .before .accept .ensures ∙ ap accepted (c .before .before .count-fixed .ensures)) refl
 
 pub fixed-points-spec : {M : Type 1} → statement M
 fixed-points-spec =
-    tie.close (tie.spec examine-requires returns count-fixed-requires accept-requires returns-2)
+    tie.close
+    (tie.spec
+    examine-requires
+    give-requires
+    returns
+    count-fixed-requires
+    accept-requires
+    give-requires-2
+    returns-2)
