@@ -1,0 +1,149 @@
+-- Blocks cut from bytes: a switch on the bytes of two blocks is a switch on the blocks.
+-- Assumes nothing.
+use mathlib.Core.Path.{_≡_, refl, sym, ap, _∙_}
+use mathlib.Core.Bool.{Bool, true, false, cond}
+use mathlib.Core.List.{List, [], _∷_, _++_, append-assoc, append-nil}
+use Prim.Native.Nat.{ℕ, zero, suc, _+_, _-_, _*_, _≤_, _<_}
+use native.Mathlib.Nat.{suc-mul, add-mul}
+use native.Mathlib.Omega.{arith}
+use lib.Dec.{eqb}
+use lib.ListN.{length, take, drop, getD, set, length-append, length-take, length-drop, take-append-drop}
+use lib.Seq.{getD-append-seam, set-append-seam, take-suc, take-all, length-take-le, drop-drop, take-at, drop-at, take-append-le, drop-append-le, take-add}
+use borrow.Author.Tests.{eqb-true}
+use Rattle.network.specs.Move.{switch}
+use Rattle.network.specs.Blocks.{cut}
+use Rattle.exchange.specs.Bytes.{bytesSwitched, blocksSwitched}
+use Rattle.exchange.proofs.Bytes.{row-le}
+
+nil : {A : Type 0} (x : List A) → length x ≡ 0 → x ≡ []
+nil [] e = refl
+nil (c ∷ x) e = absurd (omega arith)
+
+pub length-cut : (w n : ℕ) (b : List ℕ) → length (cut w n b) ≡ n
+unfolding cut
+length-cut w zero b = refl
+length-cut w (suc n) b = ap suc (length-cut w n (drop w b))
+
+-- a block, and what is cut from the bytes behind it
+pub cut-block : (w r : ℕ) (x b : List ℕ) → length x ≡ w → cut w (suc r) (x ++ b) ≡ x ∷ cut w r b
+unfolding cut
+cut-block w r x b e = rw (take-at x b w e, drop-at x b w e)
+
+pub cut-append : (w n r : ℕ) (a b : List ℕ) → length a ≡ n * w → cut w (n + r) (a ++ b) ≡ cut w n a ++ cut w r b
+unfolding cut
+cut-append w zero r a b e =
+    let z : 0 + r ≡ r = omega arith in
+    rw (z, nil a (omega arith))
+cut-append w (suc n) r a b e =
+    let z : suc n + r ≡ suc (n + r) = omega arith in
+    let m : length a ≡ n * w + w = e ∙ suc-mul n w in
+    let h : w ≤ length a = omega arith in
+    let l : length (drop w a) ≡ n * w = rw length-drop (omega arith) in
+    rw (z, take-append-le w a b h, drop-append-le w a b h) (ap (λ t. take w a ∷ t) (cut-append w n r (drop w a) b l))
+
+-- two items of a list, exchanged by a switch under bit 1
+swap-two : {A : Type 0} (d : A) (e m z : List A) (x y : A)
+    → switch d (length e) (length (e ++ (x ∷ m))) 1 (e ++ (x ∷ (m ++ (y ∷ z)))) ≡ e ++ (y ∷ (m ++ (x ∷ z)))
+unfolding switch
+swap-two d [] m z x y = λ k. getD-append-seam m y z d k ∷ set-append-seam m y z x k
+swap-two d (c ∷ e) m z x y = ap (λ l. c ∷ l) (swap-two d e m z x y)
+
+-- another bit leaves the list
+left : {A : Type 0} (d : A) (p q bit : ℕ) (xs : List A) → eqb bit 1 ≡ false → switch d p q bit xs ≡ xs
+unfolding switch
+left d p q bit xs h = rw (switch, h)
+
+last : (x : List ℕ) (j : ℕ) → length x ≡ suc j → x ≡ take j x ++ (getD x j 0 ∷ [])
+last x j e = sym (take-all (suc j) x (omega arith)) ∙ take-suc x j 0 (omega arith)
+
+-- the bytes of a block x at p and of a block y at q
+exchanged : (n : ℕ) (a x m y z : List ℕ) (p q : ℕ) → length x ≡ n → length y ≡ n → length a ≡ p → p + (n + length m) ≡ q
+    → bytesSwitched p q 1 n (a ++ (x ++ (m ++ (y ++ z)))) ≡ a ++ (y ++ (m ++ (x ++ z)))
+unfolding bytesSwitched
+exchanged zero a x m y z p q ex ey ea eq = rw (nil x ex, nil y ey)
+exchanged (suc j) a x m y z p q ex ey ea eq =
+    let xs : List ℕ = take j x in
+    let ys : List ℕ = take j y in
+    let c : ℕ = getD x j 0 in
+    let d : ℕ = getD y j 0 in
+    let nx : length xs ≡ j = length-take-le j x (omega arith) in
+    let ny : length ys ≡ j = length-take-le j y (omega arith) in
+    let hx : x ≡ xs ++ (c ∷ []) = last x j ex in
+    let hy : y ≡ ys ++ (d ∷ []) = last y j ey in
+    let opened : a ++ (x ++ (m ++ (y ++ z))) ≡ a ++ (xs ++ ((c ∷ m) ++ (ys ++ (d ∷ z)))) =
+    ap (λ u. a ++ (u ++ (m ++ (y ++ z)))) hx ∙ ap (λ u. a ++ ((xs ++ (c ∷ [])) ++ (m ++ (u ++ z)))) hy ∙ simp append-assoc in
+    let earlier : bytesSwitched p q 1 j (a ++ (xs ++ ((c ∷ m) ++ (ys ++ (d ∷ z))))) ≡ a ++ (ys ++ ((c ∷ m) ++ (xs ++ (d ∷ z)))) =
+    exchanged j a xs (c ∷ m) ys (d ∷ z) p q nx ny ea (omega arith) in
+    let between : a ++ (ys ++ ((c ∷ m) ++ (xs ++ (d ∷ z)))) ≡ (a ++ ys) ++ (c ∷ ((m ++ xs) ++ (d ∷ z))) = simp append-assoc in
+    let lower : p + j ≡ length (a ++ ys) = rw length-append (omega arith) in
+    let upper : q + j ≡ length ((a ++ ys) ++ (c ∷ (m ++ xs))) = simp length-append (omega arith) in
+    let closed : (a ++ ys) ++ (d ∷ ((m ++ xs) ++ (c ∷ z))) ≡ a ++ (y ++ (m ++ (x ++ z))) =
+    sym (ap (λ u. a ++ (y ++ (m ++ (u ++ z)))) hx ∙ ap (λ u. a ++ (u ++ (m ++ ((xs ++ (c ∷ [])) ++ z)))) hy ∙ simp append-assoc) in
+    ap (λ u. switch 0 (p + j) (q + j) 1 (bytesSwitched p q 1 j u)) opened
+    ∙ ap (switch 0 (p + j) (q + j) 1) (earlier ∙ between)
+    ∙ rw (lower, upper) (swap-two 0 (a ++ ys) (m ++ xs) z c d)
+    ∙ closed
+
+kept : (a b bit n : ℕ) (bytes : List ℕ) → eqb bit 1 ≡ false → bytesSwitched a b bit n bytes ≡ bytes
+unfolding bytesSwitched
+kept a b bit zero bytes h = refl
+kept a b bit (suc j) bytes h = left 0 (a + j) (b + j) bit (bytesSwitched a b bit j bytes) h ∙ kept a b bit j bytes h
+
+-- the blocks before place p, at p, between, at q and after
+parts : (w p g r : ℕ) (a x m y z : List ℕ) → length a ≡ p * w → length x ≡ w → length m ≡ g * w → length y ≡ w
+    → cut w (p + suc (g + suc r)) (a ++ (x ++ (m ++ (y ++ z)))) ≡ cut w p a ++ (x ∷ (cut w g m ++ (y ∷ cut w r z)))
+parts w p g r a x m y z ea ex em ey =
+    rw (cut-append w p (suc (g + suc r)) a (x ++ (m ++ (y ++ z))) ea, cut-block w (g + suc r) x (m ++ (y ++ z)) ex, cut-append w g (suc r) m (y ++ z) em, cut-block w r y z ey)
+
+-- a switch on whole blocks, where the bytes are so many parts
+parted : (w p g r : ℕ) (a x m y z : List ℕ) → length a ≡ p * w → length x ≡ w → length m ≡ g * w → length y ≡ w
+    → cut w (p + suc (g + suc r)) (blocksSwitched w p (p + suc g) 1 (a ++ (x ++ (m ++ (y ++ z)))))
+    ≡ switch [] p (p + suc g) 1 (cut w (p + suc (g + suc r)) (a ++ (x ++ (m ++ (y ++ z)))))
+parted w p g r a x m y z ea ex em ey =
+    let later : p * w + (w + length m) ≡ (p + suc g) * w = omega (arith, add-mul p (suc g) w, suc-mul g w) in
+    let e = cut w p a in
+    let n = cut w g m in
+    let lower : p ≡ length e = sym (length-cut w p a) in
+    let upper : p + suc g ≡ length (e ++ (x ∷ n)) = sym (rw (length-append, length-cut, length-cut)) in
+    ap (cut w (p + suc (g + suc r))) (exchanged w a x m y z (p * w) ((p + suc g) * w) ex ey ea later)
+    ∙ parts w p g r a y m x z ea ey em ex
+    ∙ sym (ap (switch [] p (p + suc g) 1) (parts w p g r a x m y z ea ex em ey) ∙ ap (λ i. switch [] i (p + suc g) 1 (e ++ (x ∷ (n ++ (y ∷ cut w r z))))) lower ∙ ap (λ i. switch [] (length e) i 1 (e ++ (x ∷ (n ++ (y ∷ cut w r z))))) upper ∙ swap-two [] e n (cut w r z) x y)
+
+-- a switch on the bytes of the blocks at p and q is a switch on the blocks
+pub cut-switched : (w m p q bit : ℕ) (bytes : List ℕ) → p < q → q < m → m * w ≡ length bytes
+    → cut w m (blocksSwitched w p q bit bytes) ≡ switch [] p q bit (cut w m bytes)
+cut-switched w m p q bit bytes h l e = go (eqb bit 1) refl
+  where
+    g : ℕ
+    g = q - suc p
+
+    r : ℕ
+    r = m - suc q
+
+    a : List ℕ
+    a = take (p * w) bytes
+
+    b : List ℕ
+    b = drop (p * w) bytes
+
+    go : (t : Bool) → eqb bit 1 ≡ t → cut w m (blocksSwitched w p q bit bytes) ≡ switch [] p q bit (cut w m bytes)
+    go false t = ap (cut w m) (kept (p * w) (q * w) bit w bytes t) ∙ sym (left [] p q bit (cut w m bytes) t)
+    go true t =
+        let one : bit ≡ 1 = eqb-true bit 1 t in
+        let later : p + suc g ≡ q = omega arith in
+        let all : p + suc (g + suc r) ≡ m = omega arith in
+        let long : p * w + (w + (g * w + (w + r * w))) ≡ length bytes =
+        omega (arith, e, ap (λ n. n * w) all, add-mul p (suc (g + suc r)) w, suc-mul (g + suc r) w, add-mul g (suc r) w, suc-mul r w) in
+        let x = take w b in
+        let b1 = drop w b in
+        let n = take (g * w) b1 in
+        let b2 = drop (g * w) b1 in
+        let y = take w b2 in
+        let z = drop w b2 in
+        let lb : length b ≡ w + (g * w + (w + r * w)) = rw length-drop (omega arith) in
+        let lb1 : length b1 ≡ g * w + (w + r * w) = rw length-drop (omega arith) in
+        let lb2 : length b2 ≡ w + r * w = rw length-drop (omega arith) in
+        let whole : bytes ≡ a ++ (x ++ (n ++ (y ++ z))) =
+        sym (rw (take-append-drop w b2, take-append-drop (g * w) b1, take-append-drop w b, take-append-drop (p * w) bytes)) in
+        rw (one, ← later, ← all, whole)
+        (parted w p g r a x n y z (length-take-le (p * w) bytes (omega arith)) (length-take-le w b (omega arith)) (length-take-le (g * w) b1 (omega arith)) (length-take-le w b2 (omega arith)))
