@@ -1,1 +1,4 @@
 pub mod Cases
+pub mod Shape
+pub mod Paper
+pub mod Blocks
