@@ -7,39 +7,22 @@ use Prim.Native.Nat.{ℕ, zero, suc, _+_, _-_, _*_, _≤_, _<_}
 use native.Mathlib.Nat.{suc-mul, add-mul}
 use native.Mathlib.Omega.{arith}
 use lib.Dec.{eqb}
-use lib.ListN.{length, take, drop, getD, set, length-append, length-take, length-drop, take-append-drop}
-use lib.Seq.{getD-append-seam, set-append-seam, take-suc, take-all, length-take-le, drop-drop, take-at, drop-at, take-append-le, drop-append-le, take-add}
+use lib.ListN.{length, take, drop, getD, set, length-append, length-drop, take-append-drop}
+use lib.Seq.{getD-append-seam, set-append-seam, take-suc, take-all, length-take-le, take-at, drop-at}
 use borrow.Author.Tests.{eqb-true}
 use Rattle.network.specs.Move.{switch}
 use Rattle.network.specs.Blocks.{cut}
 use Rattle.exchange.specs.Bytes.{bytesSwitched, blocksSwitched}
-use Rattle.exchange.proofs.Bytes.{row-le}
+use Rattle.network.proofs.Blocks.{length-cut, cut-append}
 
 nil : {A : Type 0} (x : List A) → length x ≡ 0 → x ≡ []
 nil [] e = refl
 nil (c ∷ x) e = absurd (omega arith)
 
-pub length-cut : (w n : ℕ) (b : List ℕ) → length (cut w n b) ≡ n
-unfolding cut
-length-cut w zero b = refl
-length-cut w (suc n) b = ap suc (length-cut w n (drop w b))
-
 -- a block, and what is cut from the bytes behind it
 pub cut-block : (w r : ℕ) (x b : List ℕ) → length x ≡ w → cut w (suc r) (x ++ b) ≡ x ∷ cut w r b
 unfolding cut
 cut-block w r x b e = rw (take-at x b w e, drop-at x b w e)
-
-pub cut-append : (w n r : ℕ) (a b : List ℕ) → length a ≡ n * w → cut w (n + r) (a ++ b) ≡ cut w n a ++ cut w r b
-unfolding cut
-cut-append w zero r a b e =
-    let z : 0 + r ≡ r = omega arith in
-    rw (z, nil a (omega arith))
-cut-append w (suc n) r a b e =
-    let z : suc n + r ≡ suc (n + r) = omega arith in
-    let m : length a ≡ n * w + w = e ∙ suc-mul n w in
-    let h : w ≤ length a = omega arith in
-    let l : length (drop w a) ≡ n * w = rw length-drop (omega arith) in
-    rw (z, take-append-le w a b h, drop-append-le w a b h) (ap (λ t. take w a ∷ t) (cut-append w n r (drop w a) b l))
 
 -- two items of a list, exchanged by a switch under bit 1
 swap-two : {A : Type 0} (d : A) (e m z : List A) (x y : A)

@@ -4,7 +4,7 @@ use mathlib.Core.Path.{_≡_, refl, sym, ap, _∙_}
 use mathlib.Core.Bool.{Bool, true, false, cond}
 use mathlib.Core.List.{List, [], _∷_, _++_, append-assoc, append-nil}
 use Prim.Native.Nat.{ℕ, zero, suc, _+_, _-_, _*_, _^_, _%_, _≤_, _<_}
-use native.Mathlib.Nat.{mod-eq-of-lt, mul-le-mul-right, suc-mul, add-comm}
+use native.Mathlib.Nat.{mod-eq-of-lt, add-comm}
 use native.Mathlib.Numerals.{add-one}
 use native.Mathlib.Omega.{arith}
 use lib.Bits.{bitAnd, and-mask, and-zero-r}
@@ -13,10 +13,6 @@ use lib.Seq.{set-getD, sets-eq}
 use Rattle.answers.specs.Buffers.{overlay}
 use Rattle.network.specs.Move.{switch}
 use Rattle.exchange.specs.Bytes.{bytesSwitched}
-
--- block p ends where a later block starts, at the latest
-pub row-le : (w p q : ℕ) → p < q → p * w + w ≤ q * w
-row-le w p q h = rw (← suc-mul) (mul-le-mul-right w h)
 
 -- b where the bit is 1, else a
 abbrev pub pick : ℕ → ℕ → ℕ → ℕ

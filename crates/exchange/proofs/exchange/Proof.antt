@@ -5,8 +5,9 @@ use native.Mathlib.Omega.{arith}
 use mathlib.Core.Path.{_≡_, refl, sym, ap, _∙_}
 use Prim.Native.Nat.{_+_, _*_, _-_, _≤_, _<_}
 use lib.ListN.{length, getD, length-set}
+use Rattle.network.proofs.Blocks.{block-ends}
 use Rattle.exchange.specs.Bytes.{bytesSwitched}
-use Rattle.exchange.proofs.Bytes.{row-le, masked, byte-more}
+use Rattle.exchange.proofs.Bytes.{masked, byte-more}
 use Rattle.exchange.proofs.exchange.Statement.{statement}
 use Rattle.exchange.proofs.exchange.Tie as tie
 use Rattle.exchange.proofs.exchange.Reads as reads
@@ -24,7 +25,7 @@ abbrev μ-loop : tie.MeasureT-loop
 -- src/lib.rt:22:13
 mul-a : tie.Need-mul-a Inv-loop μ-loop
 mul-a c =
-    omega (arith, row-le (c .before .args .width) (c .before .args .p) (c .before .args .q) (c .before .pre .1))
+    omega (arith, block-ends (c .before .args .width) (c .before .args .q) (c .before .args .p) (c .before .pre .1))
 
 -- src/lib.rt:23:13
 mul-b : tie.Need-mul-b Inv-loop μ-loop
@@ -39,7 +40,7 @@ loop-holds : tie.Need-loop-holds Inv-loop μ-loop
 unfolding bytesSwitched
 loop-holds c =
     let a = c .before .args in
-    ((omega arith, (row-le (a .width) (a .p) (a .q) (c .before .pre .1), c .before .pre .2)), (refl, refl))
+    ((omega arith, (block-ends (a .width) (a .q) (a .p) (c .before .pre .1), c .before .pre .2)), (refl, refl))
 
 -- src/lib.rt:27:24
 add-x : tie.Need-add-x Inv-loop μ-loop
