@@ -1,0 +1,77 @@
+-- The questions of the two calls, answered one after the other.
+-- Assumes nothing.
+use mathlib.Core.Path.{_≡_, refl, sym, ap, _∙_}
+use mathlib.Core.Bool.{Bool, true, false, _&&_}
+use mathlib.Core.List.{List, [], _∷_}
+use Prim.Native.Nat.{ℕ, zero, suc, _*_, _≤_, _<_}
+use native.Mathlib.Omega.{arith}
+use borrow.Author.Tests.{le-leb, lt-leb, eq-eqb, ne-eqb}
+use lib.Dec.{leb, eqb}
+use lib.ListN.{length}
+use Rattle.answers.specs.declared.Answer.{Answer}
+use Rattle.answers.specs.Answers.{refusal, accepted}
+use Rattle.answers.specs.Questions.{Verdict, allYes, noAt, firstNo, firstBad, askEach}
+use Rattle.answers.specs.Outcomes.{answerOf}
+use Rattle.bits.specs.Bits.{isBit}
+use Rattle.counts.specs.Counts.{W}
+use Rattle.apply.specs.Calls.{applyQuestions}
+
+module _ (n width filled : ℕ) (bits : List ℕ) (room : ℕ) where
+  abbrev verdict : Verdict
+  verdict = firstNo (applyQuestions n width filled bits room)
+
+  pub no1 : 1024 < n → verdict ≡ noAt 1 0
+  unfolding applyQuestions
+  no1 h = rw (lt-leb n 1024 h)
+
+  module _ (h1 : n ≤ 1024) where
+    pub no2-narrow : width < 1 → verdict ≡ noAt 2 0
+    unfolding applyQuestions
+    no2-narrow h = rw (le-leb n 1024 h1, lt-leb 1 width h)
+
+    module _ (h2 : 1 ≤ width) where
+      pub no2-wide : 256 < width → verdict ≡ noAt 2 0
+      unfolding applyQuestions
+      no2-wide h = rw (le-leb n 1024 h1, le-leb 1 width h2, lt-leb width 256 h)
+
+      module _ (h2′ : width ≤ 256) where
+        pub no3 : (filled ≡ n * width → ⊥) → verdict ≡ noAt 3 0
+        unfolding applyQuestions
+        no3 h = rw (le-leb n 1024 h1, le-leb 1 width h2, le-leb width 256 h2′, ne-eqb filled (n * width) h)
+
+        module _ (h3 : filled ≡ n * width) where
+          pub no4 : (length bits ≡ W n → ⊥) → verdict ≡ noAt 4 0
+          unfolding applyQuestions
+          no4 h = rw (le-leb n 1024 h1, le-leb 1 width h2, le-leb width 256 h2′, eq-eqb filled (n * width) h3, ne-eqb (length bits) (W n) h)
+
+          module _ (h4 : length bits ≡ W n) where
+            pub no5 : room < 3 * W n → verdict ≡ noAt 5 0
+            unfolding applyQuestions
+            no5 h =
+                rw (
+                  le-leb n 1024 h1,
+                  le-leb 1 width h2,
+                  le-leb width 256 h2′,
+                  eq-eqb filled (n * width) h3,
+                  eq-eqb (length bits) (W n) h4,
+                  lt-leb (3 * W n) room h,
+                )
+
+            module _ (h5 : 3 * W n ≤ room) where
+              last : verdict ≡ firstNo (askEach 7 (isBit bits) (length bits) ∷ [])
+              unfolding applyQuestions
+              last =
+                  rw (
+                    le-leb n 1024 h1,
+                    le-leb 1 width h2,
+                    le-leb width 256 h2′,
+                    eq-eqb filled (n * width) h3,
+                    eq-eqb (length bits) (W n) h4,
+                    le-leb (3 * W n) room h5,
+                  )
+
+              pub no7 : (firstBad (isBit bits) (length bits) ≡ length bits → ⊥) → verdict ≡ noAt 7 (firstBad (isBit bits) (length bits))
+              no7 h = last ∙ rw (ne-eqb (firstBad (isBit bits) (length bits)) (length bits) h)
+
+              pub yes-all : firstBad (isBit bits) (length bits) ≡ length bits → verdict ≡ allYes
+              yes-all h = last ∙ rw (eq-eqb (firstBad (isBit bits) (length bits)) (length bits) h)

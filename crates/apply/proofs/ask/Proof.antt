@@ -1,0 +1,114 @@
+use borrow.Author.Needs.{needs}
+use Rattle.apply.proofs.ask.Statement.{statement}
+use Rattle.apply.proofs.ask.Tie as tie
+use Rattle.apply.proofs.ask.Reads as reads
+use Rattle.apply.proofs.ask.Lts as lts
+use Rattle.answers.proofs.accept.Reads as accept-reads
+use Rattle.answers.proofs.refuse.Reads as refuse-reads
+use Rattle.bits.proofs.first_bad_bit.Reads as first-bad-bit-reads
+use Rattle.counts.proofs.switches.Reads as switches-reads
+
+-- src/lib.rt:23:9
+refuse-requires : tie.Need-refuse-requires
+refuse-requires c κs = search needs
+
+-- src/lib.rt:23:9
+returns : tie.Need-returns
+returns c = ?
+
+-- src/lib.rt:26:9
+refuse-requires-2 : tie.Need-refuse-requires-2
+refuse-requires-2 c κs = search needs
+
+-- src/lib.rt:26:9
+returns-2 : tie.Need-returns-2
+returns-2 c = ?
+
+-- src/lib.rt:29:9
+refuse-requires-3 : tie.Need-refuse-requires-3
+refuse-requires-3 c κs = search needs
+
+-- src/lib.rt:29:9
+returns-3 : tie.Need-returns-3
+returns-3 c = ?
+
+-- src/lib.rt:31:18
+mul-if4 : tie.Need-mul-if4
+mul-if4 c = ?
+
+-- src/lib.rt:32:9
+refuse-requires-4 : tie.Need-refuse-requires-4
+refuse-requires-4 c κs = search needs
+
+-- src/lib.rt:32:9
+returns-4 : tie.Need-returns-4
+returns-4 c = ?
+
+-- src/lib.rt:34:9
+switches-requires : tie.Need-switches-requires
+switches-requires c κs = search needs
+
+-- src/lib.rt:36:9
+refuse-requires-5 : tie.Need-refuse-requires-5
+refuse-requires-5 c κs = search needs
+
+-- src/lib.rt:36:9
+returns-5 : tie.Need-returns-5
+returns-5 c = ?
+
+-- src/lib.rt:38:15
+mul-if6 : tie.Need-mul-if6
+mul-if6 c = search needs
+
+-- src/lib.rt:39:9
+refuse-requires-6 : tie.Need-refuse-requires-6
+refuse-requires-6 c κs = search needs
+
+-- src/lib.rt:39:9
+returns-6 : tie.Need-returns-6
+returns-6 c = ?
+
+-- src/lib.rt:41:9
+first-bad-bit-requires : tie.Need-first-bad-bit-requires
+first-bad-bit-requires c κs = search needs
+
+-- src/lib.rt:43:9
+refuse-requires-7 : tie.Need-refuse-requires-7
+refuse-requires-7 c κs = search needs
+
+-- src/lib.rt:43:9
+returns-7 : tie.Need-returns-7
+returns-7 c = ?
+
+-- src/lib.rt:45:5
+accept-requires : tie.Need-accept-requires
+accept-requires c κs = search needs
+
+-- src/lib.rt:19:1
+returns-8 : tie.Need-returns-8
+returns-8 c = ?
+
+pub ask-spec : {M : Type 1} → statement M
+ask-spec =
+    tie.close
+    (tie.spec
+    refuse-requires
+    returns
+    refuse-requires-2
+    returns-2
+    refuse-requires-3
+    returns-3
+    mul-if4
+    refuse-requires-4
+    returns-4
+    switches-requires
+    refuse-requires-5
+    returns-5
+    mul-if6
+    refuse-requires-6
+    returns-6
+    first-bad-bit-requires
+    refuse-requires-7
+    returns-7
+    accept-requires
+    returns-8)
