@@ -9,7 +9,7 @@ use native.Mathlib.Numerals.{add-one}
 use native.Mathlib.Omega.{arith}
 use lib.Bits.{bitAnd, and-mask, and-zero-r}
 use lib.ListN.{length, take, drop, getD, set, length-set, length-append}
-use lib.Seq.{set-getD, sets-eq}
+use lib.Seq.{set-comm, set-getD, sets-eq}
 use Rattle.answers.specs.Buffers.{overlay}
 use Rattle.network.specs.Move.{switch}
 use Rattle.exchange.specs.Bytes.{bytesSwitched}
@@ -43,14 +43,21 @@ masked (suc zero) x y d x′ y′ hs hx hy hd hz e f g =
 masked (suc (suc s)) x y d x′ y′ hs hx hy hd hz e f g = absurd (omega arith)
 
 -- so one byte more of both blocks is switched
-pub byte-more : (s a b j : ℕ) (before now : List ℕ) (x′ y′ : ℕ) → s < 2 → now ≡ bytesSwitched a b s j before
-    → Picked s (getD now (a + j) 0) (getD now (b + j) 0) x′ y′
-    → set (set now (a + j) x′) (b + j) y′ ≡ bytesSwitched a b s (j + 1) before
+pub byte-more : (s a gap j : ℕ) (before now : List ℕ) (x′ y′ : ℕ) → s < 2 → 0 < gap → now ≡ bytesSwitched a gap s j before
+    → Picked s (getD now (a + j) 0) (getD now (a + j + gap) 0) x′ y′
+    → set (set now (a + j + gap) y′) (a + j) x′ ≡ bytesSwitched a gap s (j + 1) before
 unfolding bytesSwitched switch
-byte-more zero a b j before now x′ y′ h e p =
-    rw (p .lower, p .upper, set-getD now (a + j) 0, set-getD now (b + j) 0, add-one j, bytesSwitched, switch) e
-byte-more (suc zero) a b j before now x′ y′ h e p = rw (p .lower, p .upper, add-one j, bytesSwitched, switch) (ap (λ l. set (set l (a + j) (getD l (b + j) 0)) (b + j) (getD l (a + j) 0)) e)
-byte-more (suc (suc s)) a b j before now x′ y′ h e p = absurd (omega arith)
+byte-more s a gap j before now x′ y′ h apart e p =
+    set-comm now (a + j + gap) (a + j) y′ x′ (λ same. omega arith) ∙ go s h e p
+  where
+    go : (s : ℕ) → s < 2 → now ≡ bytesSwitched a gap s j before → Picked s (getD now (a + j) 0) (getD now (a + j + gap) 0) x′ y′
+        → set (set now (a + j) x′) (a + j + gap) y′ ≡ bytesSwitched a gap s (j + 1) before
+    go zero h e p =
+        rw (p .lower, p .upper, set-getD now (a + j) 0, set-getD now (a + j + gap) 0, add-one j, bytesSwitched, switch) e
+    go (suc zero) h e p =
+        rw (p .lower, p .upper, add-one j, bytesSwitched, switch)
+        (ap (λ l. set (set l (a + j) (getD l (a + j + gap) 0)) (a + j + gap) (getD l (a + j) 0)) e)
+    go (suc (suc s)) h e p = absurd (omega arith)
 
 -- an entry's three words
 pub three : (l : List ℕ) (at a b c : ℕ) → at + 3 ≤ length l → set (set (set l at a) (at + 1) b) (at + 2) c ≡ overlay l at (a ∷ b ∷ c ∷ [])
