@@ -6,12 +6,12 @@ use mathlib.Core.List.{List, [], _∷_, _++_, append-assoc, reverse, reverse-app
 use Prim.Native.Nat.{ℕ, zero, suc, _+_, _-_, _*_, _≤_, _<_}
 use native.Mathlib.Nat.{add-assoc}
 use native.Mathlib.Omega.{arith}
-use lib.ListN.{length, take, drop, length-append, length-drop, length-reverse}
+use lib.ListN.{length, take, drop, length-append, length-drop, length-reverse, take-append-drop}
 use lib.Seq.{length-take-le, drop-drop}
-use Rattle.counts.specs.Counts.{W, up}
+use Rattle.counts.specs.Counts.{W, up, byHalves}
 use Rattle.counts.proofs.Rule.{W-none}
 use Rattle.network.specs.Wiring.{Side, paper}
-use Rattle.network.specs.Network.{Network, wires, split, network, down, switchCount}
+use Rattle.network.specs.Network.{network, networkIn, down}
 use Rattle.network.specs.Move.{layer, layerBack, part, joined, forward, backward}
 use Rattle.network.specs.Log.{Entry, switches, layerEntries}
 use Rattle.network.specs.Blocks.{cut}
@@ -167,3 +167,37 @@ module _ (w m o e : ℕ) (bits b l : List ℕ) (h : m < 2) where
   pub nothing-back : (e ≡ e + W m) × Ran w m (backward [] paper (network m) (bitsBack bits e (W m))) (reverse (switches paper (network m) (λ i. o + i))) e b l b l
   unfolding backward switches
   nothing-back = (omega (arith, W-none m h), rw (network-none m h) (ran-none w m e b l))
+
+-- two places: one output switch
+pub W-two : (m : ℕ) → m ≡ 2 → W m ≡ 1
+unfolding W byHalves
+W-two m e = rw e
+
+module _ (w o e : ℕ) (bits : List ℕ) {b l b′ l′ : List ℕ} where
+  two : Ran w 2 (layer [] paper 1 1 (drop e bits)) (layerEntries paper (placed o 2) 1) e b l b′ l′
+      → (e + 1 ≡ e + W 2) × Ran w 2 (forward [] paper (network 2) (drop e bits)) (switches paper (network 2) (λ i. o + i)) e b l b′ l′
+  unfolding forward switches layer layerEntries network networkIn W byHalves
+  two r =
+      let xs = cut w 2 b in
+      (refl, record {
+        blocks = r .blocks ∙ ap (layer [] paper 1 1 (drop e bits)) (sym (take-append-drop 1 xs)) ∙ sym (forward-split 2 (omega arith) (drop e bits) xs (length-cut w 2 b));
+        logged = r .logged;
+      })
+
+  pub pair : (m : ℕ) → m ≡ 2 → Ran w m (layer [] paper (up m) 1 (drop e bits)) (layerEntries paper (placed o m) 1) e b l b′ l′
+      → (e + 1 ≡ e + W m) × Ran w m (forward [] paper (network m) (drop e bits)) (switches paper (network m) (λ i. o + i)) e b l b′ l′
+  pair m h r = rw h (two (rw h at r))
+
+  two-back : Ran w 2 (layerBack [] paper 1 1 (bitsBack bits e 1)) (reverse (layerEntries paper (placed o 2) 1)) e b l b′ l′
+      → (e + 1 ≡ e + W 2) × Ran w 2 (backward [] paper (network 2) (bitsBack bits e (W 2))) (reverse (switches paper (network 2) (λ i. o + i))) e b l b′ l′
+  unfolding backward switches layerBack layerEntries network networkIn W byHalves
+  two-back r =
+      let xs = cut w 2 b in
+      (refl, record {
+        blocks = r .blocks ∙ sym (take-append-drop 1 (layerBack [] paper 1 1 (bitsBack bits e 1) xs)) ∙ sym (backward-split 2 (omega arith) (bitsBack bits e 1) xs (length-cut w 2 b));
+        logged = r .logged;
+      })
+
+  pub pair-back : (m : ℕ) → m ≡ 2 → Ran w m (layerBack [] paper (up m) 1 (bitsBack bits e 1)) (reverse (layerEntries paper (placed o m) 1)) e b l b′ l′
+      → (e + 1 ≡ e + W m) × Ran w m (backward [] paper (network m) (bitsBack bits e (W m))) (reverse (switches paper (network m) (λ i. o + i))) e b l b′ l′
+  pair-back m h r = rw h (two-back (rw h at r))

@@ -62,6 +62,10 @@ fn run(
     if m < 2 {
         return e;
     }
+    if m == 2 {
+        exchange::layer(blocks, width, m, 1, o, bits, log, e);
+        return e + 1;
+    }
     let k = (m + 1) / 2;
     let h = m - k;
     let cut = k * width;
@@ -88,6 +92,10 @@ fn run_back(
 {
     if m < 2 {
         return e;
+    }
+    if m == 2 {
+        exchange::layer_back(blocks, width, m, 1, o, bits, log, e);
+        return e + 1;
     }
     let k = (m + 1) / 2;
     let h = m - k;
