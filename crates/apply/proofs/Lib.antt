@@ -1,0 +1,4 @@
+pub mod Asked
+pub mod Halves
+pub mod Network
+pub mod Whole
