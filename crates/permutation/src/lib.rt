@@ -52,7 +52,8 @@ fn sweep(low: usize, i: usize, good: bool) -> usize
     low + (good & (low == i)) as usize
 }
 
-// The first bad index of a list, or its length. That there are at most 1,024 entries is question 1, asked before.
+// The first bad index of a list, or its length. Public only because other crates ask question 6 by it; that there are at
+// most 1,024 entries is question 1, which each caller asks before.
 pub fn first_bad_entry(order: &[u16]) -> usize
     requires { ⌜ length (now order) ≤ 1024 ⌝ }
     ensures { λ r. ⌜ r ≡ firstBadEntry (now (order .entry)) ⌝ }
