@@ -1,39 +1,27 @@
 -- The two calls, return by return.
 -- Assumes nothing.
 use mathlib.Core.Path.{_≡_, refl, sym, ap, _∙_}
-use mathlib.Core.Bool.{Bool, true, false}
-use mathlib.Core.List.{List, [], _∷_, _++_}
+use mathlib.Core.List.{List, [], _∷_}
 use Prim.Native.Nat.{ℕ, _≤_, _<_}
-use native.Mathlib.Omega.{arith}
 use lib.Dec.{leb, eqb}
 use lib.ListN.{length, take}
 use borrow.Author.Tests.{le-leb, lt-leb, eq-eqb, ne-eqb}
 use Rattle.answers.specs.declared.Answer.{Answer}
 use Rattle.answers.specs.Answers.{refusal, accepted}
-use Rattle.answers.specs.Questions.{Question, ask, askEach, firstBad, Verdict, allYes, noAt, firstNo}
+use Rattle.answers.specs.Questions.{Question, ask, askEach, firstBad, allYes, noAt, firstNo}
 use Rattle.answers.specs.Buffers.{overlay}
 use Rattle.answers.specs.Outcomes.{outcome}
 use Rattle.answers.proofs.Questions.{asked-yes, asked-no, asked-both, asked-first}
 use Rattle.answers.proofs.Outcomes.{ends-refused, ends-accepted}
 use Rattle.bits.specs.Bits.{isBit}
 use Rattle.counts.specs.Counts.{W}
-use Rattle.numbers.specs.Reading.{meaning, readOf}
+use Rattle.numbers.specs.Reading.{readOf}
 use Rattle.numbers.specs.declared.ReadNumber.{ReadNumber}
 use Rattle.numbers.specs.declared.ReadNumber.the-variants.{Number, Refused}
 use Rattle.numbers.proofs.Numbers.{Got, got-number, got-refused}
 use Rattle.codec.specs.Sheet.{numbersFor, sheet}
 use Rattle.codec.specs.Reading.{numbersAt, placePast, bitsIn}
-use Rattle.codec.specs.Calls.{
-  writeQuestions,
-  writeSheet,
-  placesIn,
-  fourteensAt,
-  headQuestions,
-  bodyQuestions,
-  bitsFrom,
-  readQuestions,
-  readSheet,
-}
+use Rattle.codec.specs.Calls.{writeQuestions, writeSheet, placesIn, fourteensAt, headQuestions, bodyQuestions, bitsFrom, readQuestions, readSheet}
 use Rattle.codec.specs.Inner.{Row}
 use Rattle.codec.proofs.Asking.{head-sized}
 

@@ -1,19 +1,18 @@
 -- What is written is read back, stated over the two calls' outcomes; and when each call is accepted.
 -- Assumes nothing.
 use mathlib.Core.Path.{_≡_, refl, sym, ap, _∙_}
-use mathlib.Core.Bool.{Bool, true, false}
+use mathlib.Core.Bool.{true}
 use mathlib.Core.List.{List, [], _∷_, _++_, append-assoc, append-nil}
-use Prim.Native.Nat.{ℕ, zero, suc, _+_, _-_, _*_, _≤_, _<_}
+use Prim.Native.Nat.{ℕ, zero, suc, _+_, _-_, _≤_}
 use native.Mathlib.Omega.{arith}
 use lib.Dec.{leb, eqb}
-use lib.ListN.{length, getD, take, drop, length-append}
+use lib.ListN.{length, take, drop, length-append}
 use lib.Seq.{take-all}
 use borrow.Author.Tests.{leb-true, eqb-true}
-use Rattle.answers.specs.declared.Answer.{Answer}
 use Rattle.answers.specs.Answers.{accepted}
-use Rattle.answers.specs.Questions.{Question, ask, askEach, firstBad, Verdict, allYes, noAt, firstNo}
+use Rattle.answers.specs.Questions.{Question, ask, askEach, firstBad, allYes, firstNo}
 use Rattle.answers.specs.Buffers.{overlay}
-use Rattle.answers.specs.Outcomes.{Outcome, outcome, answerOf, settled}
+use Rattle.answers.specs.Outcomes.{Outcome, outcome}
 use Rattle.answers.proofs.Questions.{passed}
 use Rattle.answers.proofs.Buffers.{overlay-read}
 use Rattle.answers.proofs.Outcomes.{Numbered, accepted-when}
@@ -21,17 +20,14 @@ use Rattle.bits.specs.Bits.{isBit, Bits}
 use Rattle.bits.proofs.Bytes.{bits-all, all-bits}
 use Rattle.counts.specs.Counts.{W}
 use Rattle.numbers.specs.Numbers.{numberBytes, numberQuestions, numberAt}
-use Rattle.numbers.specs.Reading.{readOf}
-use Rattle.numbers.specs.declared.ReadNumber.{ReadNumber}
 use Rattle.numbers.specs.declared.ReadNumber.the-variants.{Number}
-use Rattle.numbers.proofs.Numbers.{Reads, number-back, bytes-few}
+use Rattle.numbers.proofs.Numbers.{Reads, numbered, number-back}
 use Rattle.codec.specs.Sheet.{numbersFor, fourteens, numbersBytes, sheet}
 use Rattle.codec.specs.Reading.{numbersQuestions, numbersAt, placePast, bitsIn, allZero}
-use Rattle.codec.specs.Calls.{writeQuestions, writeSheet, placesIn, fourteensAt, headQuestions, bodyQuestions, readSheet}
+use Rattle.codec.specs.Calls.{writeQuestions, writeSheet, placesAt, placesIn, fourteensAt, headQuestions, bodyQuestions, readQuestions, readSheet}
 use Rattle.codec.specs.Inner.{Row}
 use Rattle.codec.proofs.Unpacking.{fourteens-fit, fourteens-length, setting-back, fill-back}
 use Rattle.codec.proofs.Rows.{Back, row-back}
-use Rattle.codec.proofs.Writing.{one-byte}
 use Rattle.codec.proofs.Asking.{head-done, body-done}
 use Rattle.codec.proofs.Calls.{write-passes, write-accepted, read-passes, read-count, read-bits, read-accepted}
 
@@ -138,6 +134,30 @@ write-only n bits out e =
       areBits = bits-all bits (eqb-true bad (length bits) (c .here));
       room = leb-true (length (sheet n bits)) (length out) (d .here);
     }
+
+-- ---- when read sheet is accepted
+
+numbered-both : (qs rs : List Question) → Numbered qs → Numbered rs → Numbered (qs ++ rs)
+numbered-both [] rs h g = g
+numbered-both (q ∷ qs) rs h g = (h .0, numbered-both qs rs (h .1) g)
+
+numbered-row : (k : ℕ) (input : List ℕ) (at : ℕ) → Numbered (numbersQuestions k input at)
+unfolding numbersQuestions
+numbered-row zero input at = tt
+numbered-row (suc k) input at =
+    numbered-both (numberQuestions input at) (numbersQuestions k input (numberAt input at .next)) (numbered input at) (numbered-row k input (numberAt input at .next))
+
+-- number 0 only where every question gets a yes
+pub read-only : (input buffer : List ℕ) → readSheet input buffer .answer .number ≡ 0 → firstNo (readQuestions input (length buffer)) ≡ allYes
+unfolding readSheet readQuestions headQuestions bodyQuestions
+read-only input buffer e =
+    accepted-when (readQuestions input (length buffer)) (placesIn input)
+    (numbered-both (headQuestions input (length buffer)) (bodyQuestions input (W (placesIn input)) (fourteensAt input))
+    (numbered-both (numberQuestions input 0) _ (numbered input 0)
+    (omega arith, numbered-both (numberQuestions input (placesAt input)) _ (numbered input (placesAt input)) (omega arith, (omega arith, tt))))
+    (numbered-both (numbersQuestions (numbersFor (W (placesIn input))) input (fourteensAt input)) _
+    (numbered-row (numbersFor (W (placesIn input))) input (fourteensAt input)) (omega arith, (omega arith, tt))))
+    e
 
 -- ---- the round trip: what an accepted write wrote is read back as n and those bits, into any buffer with room for them
 

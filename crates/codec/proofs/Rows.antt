@@ -1,16 +1,16 @@
 -- Numbers in a row: one more, what the loop of `read_row` keeps, and that a row that is written is read back.
 -- Assumes nothing.
 use mathlib.Core.Path.{_≡_, refl, sym, ap, _∙_}
-use mathlib.Core.List.{List, [], _∷_, _++_, append-assoc, append-nil}
+use mathlib.Core.List.{List, [], _∷_, _++_, append-assoc}
 use Prim.Native.Nat.{ℕ, zero, suc, _+_, _-_, _≤_, _<_}
 use native.Mathlib.Numerals.{add-one}
 use native.Mathlib.Omega.{arith}
-use lib.ListN.{length, getD, take, set, length-append, length-set}
+use lib.ListN.{length, take, set, length-append, length-set}
 use lib.Seq.{take-suc-set}
-use Rattle.answers.specs.Questions.{Verdict, allYes, noAt, firstNo}
+use Rattle.answers.specs.Questions.{allYes, noAt, firstNo}
 use Rattle.answers.proofs.Questions.{asked-both, asked-first}
 use Rattle.numbers.specs.Numbers.{numberBytes, numberQuestions, numberAt}
-use Rattle.numbers.specs.Reading.{meaning, readOf}
+use Rattle.numbers.specs.Reading.{meaning}
 use Rattle.numbers.specs.declared.ReadNumber.{ReadNumber}
 use Rattle.numbers.specs.declared.ReadNumber.the-variants.{Number, Refused}
 use Rattle.numbers.proofs.Numbers.{Reads, reads, refused, value-small, number-back}

@@ -14,7 +14,7 @@ use Rattle.numbers.specs.Numbers.{numberBytes}
 use Rattle.numbers.proofs.Numbers.{bytes-one, bytes-two, bytes-few}
 use Rattle.codec.specs.Sheet.{bitsNumber, numbersFor, fourteens, numbersBytes, sheet}
 use Rattle.codec.specs.Inner.{Put}
-use Rattle.codec.proofs.Unpacking.{bits-take, bits-drop, number-fits}
+use Rattle.codec.proofs.Unpacking.{bits-take, bits-drop, number-fits, fourteens-length}
 
 -- ---- one number
 
@@ -208,6 +208,26 @@ unfolding sheet numbersBytes
 sheet-put {a} {r} {b} n bits h P Q R =
     let room : r + length (numberBytes n) ≤ length b = omega (arith, P .place, one-byte, bytes-few n, ap length (P .buffer), overlay-length a 0 (numberBytes 1) (omega (arith, one-byte))) in
     put-then (omega (arith, one-byte)) P (put-then room Q R)
+
+-- no number takes more than two bytes, and the form number takes one
+bytes-most : (vs : List ℕ) → length (numbersBytes vs) ≤ 2 * length vs
+unfolding numbersBytes
+bytes-most [] = omega arith
+bytes-most (v ∷ vs) = omega (arith, length-append (numberBytes v) (numbersBytes vs), bytes-few v, bytes-most vs)
+
+pub sheet-length : (n : ℕ) (bits : List ℕ) → length (sheet n bits) ≤ 3 + 2 * numbersFor (length bits)
+unfolding sheet numbersBytes
+sheet-length n bits =
+    let vs = fourteens (numbersFor (length bits)) bits in
+    omega (
+      arith,
+      length-append (numberBytes 1) (numberBytes n ++ numbersBytes vs),
+      length-append (numberBytes n) (numbersBytes vs),
+      one-byte,
+      bytes-few n,
+      bytes-most vs,
+      fourteens-length (numbersFor (length bits)) bits,
+    )
 
 -- what was put at the front is there
 pub put-front : {a bytes : List ℕ} {r : ℕ} {b : List ℕ} → Put a 0 bytes r b → take r b ≡ bytes

@@ -3,30 +3,19 @@
 use mathlib.Core.Path.{_≡_, refl, sym, ap, _∙_}
 use mathlib.Core.Bool.{Bool, true, false, _||_, and-eq-true-iff}
 use mathlib.Core.List.{List, [], _∷_, _++_}
-use Prim.Native.Nat.{ℕ, zero, suc, _+_, _*_, _/_, _%_, _≤_, _<_}
+use Prim.Native.Nat.{ℕ, _+_, _*_, _/_, _%_, _≤_, _<_}
 use native.Mathlib.Omega.{arith}
 use native.Mathlib.Decide.{decLt}
 use lib.Dec.{ltb, leb}
-use lib.ListN.{length, getD, length-append}
+use lib.ListN.{length, length-append}
 use lib.Seq.{getD-append-seam, getD-append-add}
-use borrow.Author.Tests.{lt-ltb, le-ltb, le-leb, lt-leb, ltb-true, ltb-false}
+use borrow.Author.Tests.{lt-ltb, le-ltb, le-leb, lt-leb, ltb-true}
 use Rattle.answers.specs.Answers.{refusal}
 use Rattle.answers.specs.Questions.{Question, ask, Verdict, allYes, noAt, firstNo}
 use Rattle.answers.specs.Outcomes.{answerOf}
 use Rattle.answers.proofs.Questions.{passed}
 use Rattle.answers.proofs.Outcomes.{Numbered, accepted-when}
-use Rattle.numbers.specs.Numbers.{
-  numberBytes,
-  byteAt,
-  oneByte,
-  ends,
-  numberQuestions,
-  valueAt,
-  placeAfter,
-  NumberAnswer,
-  numberAnswer,
-  numberAt,
-}
+use Rattle.numbers.specs.Numbers.{numberBytes, byteAt, oneByte, ends, numberQuestions, valueAt, placeAfter, NumberAnswer, numberAnswer, numberAt}
 use Rattle.numbers.specs.Reading.{meaning, readOf}
 use Rattle.numbers.specs.declared.ReadNumber.{ReadNumber}
 use Rattle.numbers.specs.declared.ReadNumber.the-variants.{Number, Refused}
@@ -103,7 +92,7 @@ module _ (input : List ℕ) (at : ℕ) where
 -- ---- taking the answer apart
 
 -- each question's number is above 0
-numbered : (input : List ℕ) (at : ℕ) → Numbered (numberQuestions input at)
+pub numbered : (input : List ℕ) (at : ℕ) → Numbered (numberQuestions input at)
 unfolding numberQuestions
 numbered input at = (omega arith, (omega arith, (omega arith, tt)))
 
