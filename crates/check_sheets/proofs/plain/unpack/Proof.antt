@@ -1,0 +1,63 @@
+use borrow.Author.Needs.{needs}
+use mathlib.Core.Path.{_≡_}
+use Prim.Native.Nat.{_+_, _-_, _≤_}
+use lib.ListN.{length}
+use Rattle.check_sheets.proofs.plain.unpack.Statement.{statement}
+use Rattle.check_sheets.proofs.plain.unpack.Tie as tie
+use Rattle.check_sheets.proofs.plain.unpack.Reads as reads
+use Rattle.check_sheets.proofs.plain.unpack.Lts as lts
+use Rattle.check_sheets.proofs.plain.plus.Reads as plus-reads
+use Rattle.check_sheets.proofs.plain.put.Reads as put-reads
+
+abbrev Inv-loop : tie.InvT-loop
+Inv-loop out₀ from v rest₀ j₀ out rest j = (j ≤ 14) × (length out ≡ length out₀)
+
+abbrev μ-loop : tie.MeasureT-loop
+μ-loop out₀ from v rest₀ j₀ out rest j = 14 - j
+
+-- src/plain.rt:201:5
+loop-holds : tie.Need-loop-holds Inv-loop μ-loop
+loop-holds c = search needs
+
+-- src/plain.rt:202:18
+plus-requires : tie.Need-plus-requires Inv-loop μ-loop
+plus-requires c κs = search needs
+
+-- src/plain.rt:202:9
+put-requires : tie.Need-put-requires Inv-loop μ-loop
+put-requires c κs = search needs
+
+-- src/plain.rt:204:9
+add-j : tie.Need-add-j Inv-loop μ-loop
+add-j c = search needs
+
+-- src/plain.rt:201:5
+loop-less : tie.Need-loop-less Inv-loop μ-loop
+loop-less c = search needs
+
+-- src/plain.rt:201:5
+loop-again : tie.Need-loop-again Inv-loop μ-loop
+loop-again c = search needs
+
+-- src/plain.rt:198:1
+same-length : tie.Need-same-length Inv-loop μ-loop
+same-length c = search needs
+
+-- src/plain.rt:198:1
+returns : tie.Need-returns Inv-loop μ-loop
+returns c = search needs
+
+pub unpack-spec : {M : Type 1} → statement M
+unpack-spec =
+    tie.close
+    (tie.spec
+    Inv-loop
+    μ-loop
+    loop-holds
+    plus-requires
+    put-requires
+    add-j
+    loop-less
+    loop-again
+    same-length
+    returns)

@@ -1,0 +1,111 @@
+use mathlib.Core.Path.{ap, _∙_}
+use Rattle.numbers.specs.Reading.{meaning}
+use Rattle.numbers.proofs.Numbers.{none, one, cut, needless, third, two}
+use borrow.Author.Needs.{needs}
+use Rattle.numbers.proofs.read_number.Statement.{statement}
+use Rattle.numbers.proofs.read_number.Tie as tie
+use Rattle.numbers.proofs.read_number.Reads as reads
+use Rattle.numbers.proofs.read_number.Lts as lts
+use Rattle.numbers.proofs.bad_form.Reads as bad-form-reads
+use Rattle.numbers.proofs.no_byte.Reads as no-byte-reads
+use Rattle.numbers.proofs.wide.Reads as wide-reads
+
+-- src/lib.rt:18:9
+no-byte-requires : tie.Need-no-byte-requires
+no-byte-requires c κs = search needs
+
+-- src/lib.rt:18:9
+returns : tie.Need-returns
+returns c = ap meaning (c .no-byte .ensures) ∙ none _ _ (c .before .if1 .taken)
+
+-- src/lib.rt:20:20
+shared-slice-read-wide : tie.Need-shared-slice-read-wide
+shared-slice-read-wide c = search needs
+
+-- src/lib.rt:20:9
+wide-requires : tie.Need-wide-requires
+wide-requires c κs = search needs
+
+-- src/lib.rt:22:40
+add-t10 : tie.Need-add-t10
+add-t10 c = search needs
+
+-- src/lib.rt:22:9
+returns-2 : tie.Need-returns-2
+returns-2 c = one _ _ (c .before .before .before .if1 .left) (c .before .wide .ensures) (c .if2 .taken)
+
+-- src/lib.rt:24:18
+add-second : tie.Need-add-second
+add-second c = search needs
+
+-- src/lib.rt:26:9
+no-byte-requires-2 : tie.Need-no-byte-requires-2
+no-byte-requires-2 c κs = search needs
+
+-- src/lib.rt:26:9
+returns-3 : tie.Need-returns-3
+returns-3 c = ap meaning (c .no-byte2 .ensures) ∙ cut _ _ (c .before .before .before .before .before .if1 .left) (c .before .before .before .wide .ensures) (c .before .before .if2 .left) (c .before .if3 .taken)
+
+-- src/lib.rt:28:21
+shared-slice-read-wide-2 : tie.Need-shared-slice-read-wide-2
+shared-slice-read-wide-2 c = search needs
+
+-- src/lib.rt:28:9
+wide-requires-2 : tie.Need-wide-requires-2
+wide-requires-2 c κs = search needs
+
+-- src/lib.rt:30:9
+bad-form-requires : tie.Need-bad-form-requires
+bad-form-requires c κs = search needs
+
+-- src/lib.rt:30:9
+returns-4 : tie.Need-returns-4
+returns-4 c = ap meaning (c .bad-form .ensures) ∙ needless _ _ (c .before .before .before .before .before .before .before .before .if1 .left) (c .before .before .before .before .before .before .wide .ensures) (c .before .before .before .before .before .if2 .left) (c .before .before .before .before .if3 .left) (c .before .before .wide2 .ensures) (c .before .if4 .taken)
+
+-- src/lib.rt:33:9
+bad-form-requires-2 : tie.Need-bad-form-requires-2
+bad-form-requires-2 c κs = search needs
+
+-- src/lib.rt:33:9
+returns-5 : tie.Need-returns-5
+returns-5 c = ap meaning (c .bad-form2 .ensures) ∙ third _ _ (c .before .before .before .before .before .before .before .before .before .if1 .left) (c .before .before .before .before .before .before .before .wide .ensures) (c .before .before .before .before .before .before .if2 .left) (c .before .before .before .before .before .if3 .left) (c .before .before .before .wide2 .ensures) (c .before .if5 .taken)
+
+-- src/lib.rt:35:36
+mul-t12 : tie.Need-mul-t12
+mul-t12 c = search needs
+
+-- src/lib.rt:35:24
+add-t13 : tie.Need-add-t13
+add-t13 c = search needs
+
+-- src/lib.rt:35:48
+add-t14 : tie.Need-add-t14
+add-t14 c = search needs
+
+-- src/lib.rt:14:1
+returns-6 : tie.Need-returns-6
+returns-6 c = two _ _ (c .before .before .before .before .before .before .before .before .if1 .left) (c .before .before .before .before .before .before .wide .ensures) (c .before .before .before .before .before .if2 .left) (c .before .before .before .before .if3 .left) (c .before .before .wide2 .ensures) (c .before .if4 .left) (c .if5 .left)
+
+pub read-number-spec : {M : Type 1} → statement M
+read-number-spec =
+    tie.close
+    (tie.spec
+    no-byte-requires
+    returns
+    shared-slice-read-wide
+    wide-requires
+    add-t10
+    returns-2
+    add-second
+    no-byte-requires-2
+    returns-3
+    shared-slice-read-wide-2
+    wide-requires-2
+    bad-form-requires
+    returns-4
+    bad-form-requires-2
+    returns-5
+    mul-t12
+    add-t13
+    add-t14
+    returns-6)
