@@ -10,9 +10,9 @@ use lib.Dec.{leb, eqb}
 use lib.ListN.{length}
 use Rattle.answers.specs.declared.Answer.{Answer}
 use Rattle.answers.specs.Answers.{refusal, accepted}
-use Rattle.answers.specs.Questions.{Question, Verdict, allYes, noAt, firstNo, firstBad, ask, askEach}
+use Rattle.answers.specs.Questions.{Verdict, allYes, noAt, firstNo, firstBad, askEach}
 use Rattle.answers.specs.Outcomes.{answerOf}
-use Rattle.answers.proofs.Questions.{passed}
+use Rattle.answers.proofs.Questions.{each-yes}
 use Rattle.answers.proofs.Outcomes.{accepted-when}
 use Rattle.bits.specs.Bits.{isBit, Bits}
 use Rattle.bits.proofs.Bytes.{bits-all, all-bits}
@@ -100,26 +100,16 @@ both false b e = absurd (false≢true e)
 pub passes : (n width filled : ℕ) (bits : List ℕ) (room : ℕ) → firstNo (applyQuestions n width filled bits room) ≡ allYes → Fits n width filled bits room
 unfolding applyQuestions
 passes n width filled bits room e =
-    let q2 = ask 2 0 (leb 1 width && leb width 256) in
-    let q3 = ask 3 0 (eqb filled (n * width)) in
-    let q4 = ask 4 0 (eqb (length bits) (W n)) in
-    let q5 = ask 5 0 (leb (3 * W n) room) in
-    let q7 = askEach 7 (isBit bits) (length bits) in
-    let p1 = passed 1 0 (leb n 1024) (q2 ∷ q3 ∷ q4 ∷ q5 ∷ q7 ∷ []) e in
-    let p2 = passed 2 0 (leb 1 width && leb width 256) (q3 ∷ q4 ∷ q5 ∷ q7 ∷ []) (p1 .rest) in
-    let p3 = passed 3 0 (eqb filled (n * width)) (q4 ∷ q5 ∷ q7 ∷ []) (p2 .rest) in
-    let p4 = passed 4 0 (eqb (length bits) (W n)) (q5 ∷ q7 ∷ []) (p3 .rest) in
-    let p5 = passed 5 0 (leb (3 * W n) room) (q7 ∷ []) (p4 .rest) in
-    let p7 = passed 7 (firstBad (isBit bits) (length bits)) (eqb (firstBad (isBit bits) (length bits)) (length bits)) [] (p5 .rest) in
-    let sides = both (leb 1 width) (leb width 256) (p2 .here) in
+    let y = each-yes (applyQuestions n width filled bits room) e in
+    let sides = both (leb 1 width) (leb width 256) (y .1 .0) in
     record {
-      places = leb-true n 1024 (p1 .here);
+      places = leb-true n 1024 (y .0);
       low = leb-true 1 width (sides .0);
       high = leb-true width 256 (sides .1);
-      whole = eqb-true filled (n * width) (p3 .here);
-      count = eqb-true (length bits) (W n) (p4 .here);
-      words = leb-true (3 * W n) room (p5 .here);
-      settings = bits-all bits (eqb-true (firstBad (isBit bits) (length bits)) (length bits) (p7 .here));
+      whole = eqb-true filled (n * width) (y .1 .1 .0);
+      count = eqb-true (length bits) (W n) (y .1 .1 .1 .0);
+      words = leb-true (3 * W n) room (y .1 .1 .1 .1 .0);
+      settings = bits-all bits (eqb-true (firstBad (isBit bits) (length bits)) (length bits) (y .1 .1 .1 .1 .1 .0));
     }
 
 pub fit-passes : {n width filled : ℕ} {bits : List ℕ} {room : ℕ} → Fits n width filled bits room → firstNo (applyQuestions n width filled bits room) ≡ allYes

@@ -2,3 +2,4 @@ pub mod Asked
 pub mod Halves
 pub mod Network
 pub mod Whole
+pub mod Outcome

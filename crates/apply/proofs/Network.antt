@@ -178,11 +178,13 @@ module _ (w o e : ℕ) (bits : List ℕ) {b l b′ l′ : List ℕ} where
       → (e + 1 ≡ e + W 2) × Ran w 2 (forward [] paper (network 2) (drop e bits)) (switches paper (network 2) (λ i. o + i)) e b l b′ l′
   unfolding forward switches layer layerEntries network networkIn W byHalves
   two r =
-      let xs = cut w 2 b in
-      (refl, record {
-        blocks = r .blocks ∙ ap (layer [] paper 1 1 (drop e bits)) (sym (take-append-drop 1 xs)) ∙ sym (forward-split 2 (omega arith) (drop e bits) xs (length-cut w 2 b));
-        logged = r .logged;
-      })
+      let xs = cut w 2 b in (
+        refl,
+        record {
+          blocks = r .blocks ∙ ap (layer [] paper 1 1 (drop e bits)) (sym (take-append-drop 1 xs)) ∙ sym (forward-split 2 (omega arith) (drop e bits) xs (length-cut w 2 b));
+          logged = r .logged;
+        },
+      )
 
   pub pair : (m : ℕ) → m ≡ 2 → Ran w m (layer [] paper (up m) 1 (drop e bits)) (layerEntries paper (placed o m) 1) e b l b′ l′
       → (e + 1 ≡ e + W m) × Ran w m (forward [] paper (network m) (drop e bits)) (switches paper (network m) (λ i. o + i)) e b l b′ l′
@@ -192,11 +194,13 @@ module _ (w o e : ℕ) (bits : List ℕ) {b l b′ l′ : List ℕ} where
       → (e + 1 ≡ e + W 2) × Ran w 2 (backward [] paper (network 2) (bitsBack bits e (W 2))) (reverse (switches paper (network 2) (λ i. o + i))) e b l b′ l′
   unfolding backward switches layerBack layerEntries network networkIn W byHalves
   two-back r =
-      let xs = cut w 2 b in
-      (refl, record {
-        blocks = r .blocks ∙ sym (take-append-drop 1 (layerBack [] paper 1 1 (bitsBack bits e 1) xs)) ∙ sym (backward-split 2 (omega arith) (bitsBack bits e 1) xs (length-cut w 2 b));
-        logged = r .logged;
-      })
+      let xs = cut w 2 b in (
+        refl,
+        record {
+          blocks = r .blocks ∙ sym (take-append-drop 1 (layerBack [] paper 1 1 (bitsBack bits e 1) xs)) ∙ sym (backward-split 2 (omega arith) (bitsBack bits e 1) xs (length-cut w 2 b));
+          logged = r .logged;
+        },
+      )
 
   pub pair-back : (m : ℕ) → m ≡ 2 → Ran w m (layerBack [] paper (up m) 1 (bitsBack bits e 1)) (reverse (layerEntries paper (placed o m) 1)) e b l b′ l′
       → (e + 1 ≡ e + W m) × Ran w m (backward [] paper (network m) (bitsBack bits e (W m))) (reverse (switches paper (network m) (λ i. o + i))) e b l b′ l′

@@ -66,7 +66,7 @@ fn run(
         exchange::layer(blocks, width, m, 1, o, bits, log, e);
         return e + 1;
     }
-    let k = (m + 1) / 2;
+    let k = (m + 1) / 2; // the places of the top network
     let h = m - k;
     let cut = k * width;
     let inputs = k - 1;
@@ -109,18 +109,30 @@ fn run_back(
 }
 
 // 01: mix.
-pub fn apply(n: usize, width: usize, blocks: &mut [u8], bits: &[u8], log: &mut [u16]) -> answers::Answer
+pub fn apply(
+    n: usize,
+    width: usize,
+    blocks: &mut [u8],
+    bits: &[u8],
+    log: &mut [u16],
+) -> answers::Answer
     ensures { λ r. ⌜ logged r (now (blocks .exit)) (now (log .exit)) ≡ applyCall n width (now (blocks .entry)) (now (bits .entry)) (now (log .entry)) ⌝ }
 {
     let asked = ask(n, width, blocks.len(), bits, log.len());
-    if asked.number != 0 {
+    if asked.number != 0 { // nothing is written
         return asked;
     }
     answers::accept(run(blocks, width, n, 0, bits, log, 0))
 }
 
 // 01: return.
-pub fn apply_inverse(n: usize, width: usize, blocks: &mut [u8], bits: &[u8], log: &mut [u16]) -> answers::Answer
+pub fn apply_inverse(
+    n: usize,
+    width: usize,
+    blocks: &mut [u8],
+    bits: &[u8],
+    log: &mut [u16],
+) -> answers::Answer
     ensures { λ r. ⌜ logged r (now (blocks .exit)) (now (log .exit)) ≡ inverseCall n width (now (blocks .entry)) (now (bits .entry)) (now (log .entry)) ⌝ }
 {
     let asked = ask(n, width, blocks.len(), bits, log.len());

@@ -85,8 +85,7 @@ loop-again c =
     let a = s .args in
     let i = a .a + l .loop .j in
     let y = c .before .wrapping-sub-u82 in
-    let d = c .before .before .wrapping-sub-u8 in
-    (
+    let d = c .before .before .wrapping-sub-u8 in (
       omega arith,
       (
         simp length-set (l .loop .inv .1 .0),
