@@ -2,15 +2,14 @@
 -- Assumes nothing.
 use mathlib.Core.Bool.{Bool, true, false, cond}
 use mathlib.Core.Path.{_≡_, refl, sym, ap, _∙_}
-use mathlib.Core.List.{List, [], _∷_, _++_}
+use mathlib.Core.List.{List, _++_}
 use Prim.Native.Nat.{ℕ, zero, suc, _+_, _-_, _≤_, _<_}
 use native.Mathlib.Omega.{arith}
 use native.Mathlib.Decide.{decLt}
-use lib.Dec.{ltb}
 use lib.ListN.{length, getD, take, drop, length-append, length-drop, List·getD-append}
 use lib.Seq.{take-suc, take-all, getD-drop, getD-append-add}
 use borrow.Author.Tests.{lt-ltb, le-ltb}
-use Rattle.network.specs.Wiring.{Wiring, Lawful, Side, paper}
+use Rattle.network.specs.Wiring.{Lawful, paper}
 use Rattle.network.specs.Move.{part, joined}
 
 module _ (k : ℕ) where

@@ -3,11 +3,11 @@
 -- Assumes nothing.
 use mathlib.Core.Bool.{Bool, true, false, cond}
 use mathlib.Core.Path.{_≡_, refl, sym, ap, _∙_}
-use mathlib.Core.List.{List, [], _∷_, _++_, reverse}
+use mathlib.Core.List.{List, [], _∷_, _++_}
 use Prim.Native.Nat.{ℕ, zero, suc, _+_, _-_, _*_, _≤_, _<_}
 use native.Mathlib.Omega.{arith}
 use native.Mathlib.Decide.{decLt}
-use lib.Dec.{ltb, eqb}
+use lib.Dec.{eqb}
 use lib.ListN.{length, getD, set, take, length-append, length-set, length-reverse}
 use lib.Seq.{take-at}
 use borrow.Author.Tests.{lt-ltb, le-ltb}
@@ -118,6 +118,11 @@ pub length-words : (es : List Entry) → length (words es) ≡ 3 * length es
 unfolding words
 length-words [] = refl
 length-words (e ∷ es) = omega (arith, length-words es)
+
+pub words-append : (es fs : List Entry) → words (es ++ fs) ≡ words es ++ words fs
+unfolding words
+words-append [] fs = refl
+words-append (e ∷ es) fs = ap (λ (l : List ℕ). e .kind ∷ e .first ∷ e .second ∷ l) (words-append es fs)
 
 -- words of entries read again, with fewer than three words more
 pub entries-words-more : (es : List Entry) (rest : List ℕ) → length rest < 3 → entries (words es ++ rest) ≡ es

@@ -1,7 +1,7 @@
 -- The steps of a network in sequence as one function on states, by recursion on the network and without a log.
 -- It serves the inner contracts of the code that sets; running the entries is proved to be this fold.
 -- Assumes nothing: these are definitions.
-use mathlib.Core.Bool.{Bool, true, false, cond}
+use mathlib.Core.Bool.{true, false, cond}
 use Prim.Native.Nat.{ℕ, zero, suc, _+_, _-_}
 use lib.Dec.{ltb}
 use Rattle.counts.specs.Counts.{up}

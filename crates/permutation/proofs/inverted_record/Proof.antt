@@ -1,0 +1,104 @@
+use Rattle.permutation.specs.Permutations.{IsPermutation}
+use Rattle.permutation.specs.Records.{listOf}
+use borrow.Author.Needs.{needs}
+use mathlib.Core.Path.{_≡_, refl, sym, ap, _∙_}
+use Prim.Native.Nat.{_+_, _-_, _≤_, _<_}
+use native.Mathlib.Omega.{arith}
+use lib.Dec.{eqb}
+use lib.ListN.{length, getD, take}
+use lib.Seq.{getD-take, length-take-le}
+use Rattle.permutation.proofs.Fillings.{Filling, filling-starts, filling-more, filled, filled-back, combined-read}
+use Rattle.permutation.proofs.inverted_record.Statement.{statement}
+use Rattle.permutation.proofs.inverted_record.Tie as tie
+use Rattle.permutation.proofs.inverted_record.Reads as reads
+use Rattle.permutation.proofs.inverted_record.Lts as lts
+use Rattle.permutation.proofs.build.Reads as build-reads
+use Rattle.permutation.proofs.wide.Reads as wide-reads
+
+abbrev Inv-loop : tie.InvT-loop
+Inv-loop n f e₀ i₀ e i = Filling (λ j. getD (take n f) j 0) (λ j. j) n e i
+
+abbrev μ-loop : tie.MeasureT-loop
+μ-loop n f e₀ i₀ e i = n - i
+
+-- src/lib.rt:168:5
+loop-holds : tie.Need-loop-holds Inv-loop μ-loop
+loop-holds c = filling-starts _ _ _
+
+-- src/lib.rt:169:22
+mul-wide : tie.Need-mul-wide Inv-loop μ-loop
+mul-wide c = search needs
+
+-- src/lib.rt:169:22
+array-read-wide : tie.Need-array-read-wide Inv-loop μ-loop
+array-read-wide c = search needs
+
+-- src/lib.rt:169:13
+wide-requires : tie.Need-wide-requires Inv-loop μ-loop
+wide-requires c κs = search needs
+
+-- the entry that was read is a place
+entry-below : (c : tie.After-wide Inv-loop μ-loop) → c .wide .result < c .before .before .before .before .args .p .length
+entry-below c =
+    let p = c .before .before .before .before .args .p in
+    let P : IsPermutation (p .length) (listOf p) = c .before .before .before .before .pre .1 in
+    let i = c .before .before .loop .i in
+    omega (arith, c .wide .ensures, P .below i (omega arith), getD-take (p .length) (p .entries) i 0 (omega arith))
+
+-- src/lib.rt:170:16
+cast-e : tie.Need-cast-e Inv-loop μ-loop
+cast-e c = search needs
+
+-- src/lib.rt:170:9
+mul-e : tie.Need-mul-e Inv-loop μ-loop
+mul-e c = record { fits = omega (arith, entry-below c) }
+
+-- src/lib.rt:170:9
+array-write-e : tie.Need-array-write-e Inv-loop μ-loop
+array-write-e c = omega (arith, entry-below c)
+
+-- src/lib.rt:171:9
+add-i : tie.Need-add-i Inv-loop μ-loop
+add-i c = search needs
+
+-- src/lib.rt:168:5
+loop-less : tie.Need-loop-less Inv-loop μ-loop
+loop-less c = search needs
+
+-- src/lib.rt:168:5
+loop-again : tie.Need-loop-again Inv-loop μ-loop
+loop-again c =
+    let p = c .before .before .before .before .args .p in
+    let P : IsPermutation (p .length) (listOf p) = c .before .before .before .before .pre .1 in
+    let i = c .before .before .loop .i in
+    filling-more _ _ _ (omega arith) (omega arith) (c .wide .ensures ∙ sym (getD-take (p .length) (p .entries) i 0 (omega arith))) (entry-below c)
+    (λ j l q. omega (arith, P .unlike j i (omega arith) (omega arith) q)) refl (c .before .before .loop .inv)
+
+-- src/lib.rt:173:5
+build-requires : tie.Need-build-requires Inv-loop μ-loop
+build-requires c κs = search needs
+
+-- src/lib.rt:160:1
+returns : tie.Need-returns Inv-loop μ-loop
+returns c =
+    let P : IsPermutation _ _ = c .before .before .before .before .pre .1 in
+    c .build .ensures ∙ filled-back _ _ P (omega arith) (omega arith) (c .before .before .loop .inv)
+
+pub inverted-record-spec : {M : Type 1} → statement M
+inverted-record-spec =
+    tie.close
+    (tie.spec
+    Inv-loop
+    μ-loop
+    loop-holds
+    mul-wide
+    array-read-wide
+    wide-requires
+    cast-e
+    mul-e
+    array-write-e
+    add-i
+    loop-less
+    loop-again
+    build-requires
+    returns)
