@@ -1,0 +1,74 @@
+use borrow.Author.Needs.{needs}
+use Prim.Native.Nat.{_+_, _-_, _≤_}
+use Rattle.check_permutation.proofs.check_permutations.Statement.{statement}
+use Rattle.check_permutation.proofs.check_permutations.Tie as tie
+use Rattle.check_permutation.proofs.check_permutations.Reads as reads
+use Rattle.check_permutation.proofs.check_permutations.Lts as lts
+use Rattle.check_permutation.proofs.check_calls.Reads as check-calls-reads
+use Rattle.check_permutation.proofs.check_exchanges.Reads as check-exchanges-reads
+use Rattle.check_permutation.proofs.plain.digits.Reads as digits-reads
+use Rattle.check_permutation.proofs.plain.first_bad.Reads as first-bad-reads
+use Rattle.check_permutation.proofs.plain.rotation.Reads as rotation-reads
+
+abbrev Inv-loop : tie.InvT-loop
+Inv-loop n total t₀ c₀ t c = c ≤ total
+
+abbrev μ-loop : tie.MeasureT-loop
+μ-loop n total t₀ c₀ t c = total - c
+
+-- src/main.rt:41:5
+loop-holds : tie.Need-loop-holds Inv-loop μ-loop
+loop-holds c = search needs
+
+-- src/main.rt:42:17
+digits-requires : tie.Need-digits-requires Inv-loop μ-loop
+digits-requires c κs = search needs
+
+-- src/main.rt:43:12
+first-bad-requires : tie.Need-first-bad-requires Inv-loop μ-loop
+first-bad-requires c κs = search needs
+
+-- src/main.rt:44:51
+rotation-requires : tie.Need-rotation-requires Inv-loop μ-loop
+rotation-requires c κs = search needs
+
+-- src/main.rt:44:33
+check-calls-requires : tie.Need-check-calls-requires Inv-loop μ-loop
+check-calls-requires c κs = search needs
+
+-- src/main.rt:44:13
+check-exchanges-requires : tie.Need-check-exchanges-requires Inv-loop μ-loop
+check-exchanges-requires c κs = search needs
+
+-- src/main.rt:46:9
+add-c : tie.Need-add-c Inv-loop μ-loop
+add-c c = search needs
+
+-- src/main.rt:41:5
+loop-less : tie.Need-loop-less Inv-loop μ-loop
+loop-less c = search needs
+
+-- src/main.rt:41:5
+loop-again : tie.Need-loop-again Inv-loop μ-loop
+loop-again c = search needs
+
+-- src/main.rt:36:1
+returns : tie.Need-returns Inv-loop μ-loop
+returns c = search needs
+
+pub check-permutations-spec : {M : Type 1} → statement M
+check-permutations-spec =
+    tie.close
+    (tie.spec
+    Inv-loop
+    μ-loop
+    loop-holds
+    digits-requires
+    first-bad-requires
+    rotation-requires
+    check-calls-requires
+    check-exchanges-requires
+    add-c
+    loop-less
+    loop-again
+    returns)
