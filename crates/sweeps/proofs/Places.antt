@@ -31,6 +31,10 @@ under b z x e l =
     let s : boolByte b + z ≡ digit b = rw e (omega (arith, digit-byte b)) in
     rw (s, masked 16 65535 refl (digit b) x (digit-small b) l, digit-is b)
 
+-- and under that of a test alone
+pub under-test : (b : Bool) (x : ℕ) → x < 65536 → bitAnd x (boolByte b * 65535) ≡ cond b x 0
+under-test b x l = rw (digit-byte b, masked 16 65535 refl (digit b) x (digit-small b) l, digit-is b)
+
 pub byte-small : (b : Bool) → boolByte b < 2
 byte-small true = omega arith
 byte-small false = omega arith
@@ -87,22 +91,25 @@ unfolding seek
 seek-none xs o a = record { small = omega arith; is = refl }
 
 pub seek-step : (xs : List ℕ) (o a i best y : ℕ) → Best xs o a i best → y ≡ cond (eqb (getD xs (o + i) 0) a) (i + 1) 0
-    → Best xs o a (i + 1) (cond (ltb best y) y best)
+    → Best xs o a (i + 1) (cond (ltb y best) best y)
 unfolding seek
 seek-step xs o a i best y B e = go (eqb (getD xs (o + i) 0) a) refl
   where
     more : (b : Bool) → eqb (getD xs (o + i) 0) a ≡ b → seek (λ j. o + j) (i + 1) xs a ≡ cond b i (seek (λ j. o + j) i xs a)
     more b t = rw (add-one i, seek, t)
 
-    go : (b : Bool) → eqb (getD xs (o + i) 0) a ≡ b → Best xs o a (i + 1) (cond (ltb best y) y best)
+    greater : (n : ℕ) → cond (ltb 0 n) n 0 ≡ n
+    greater zero = refl
+    greater (suc n) = rw (lt-ltb 0 (suc n) (omega arith))
+
+    go : (b : Bool) → eqb (getD xs (o + i) 0) a ≡ b → Best xs o a (i + 1) (cond (ltb y best) best y)
     go true t =
         let f : y ≡ i + 1 = e ∙ rw t in
         let n : eqb (i + 1) 0 ≡ false = ne-eqb (i + 1) 0 (λ q. omega arith) in
-        rw (f, lt-ltb best (i + 1) (omega (arith, B .small)))
-        (record { small = omega arith; is = more true t ∙ rw n (omega arith) })
+        rw (f, le-ltb (i + 1) best (omega (arith, B .small))) (record { small = omega arith; is = more true t ∙ rw n (omega arith) })
     go false t =
         let f : y ≡ 0 = e ∙ rw t in
-        rw (f, le-ltb best 0 (omega arith)) (record { small = omega (arith, B .small); is = more false t ∙ B .is })
+        rw (f, greater best) (record { small = omega (arith, B .small); is = more false t ∙ B .is })
 
 pub found-within : (best : ℕ) → digit (not (ltb best 1)) ≤ best
 found-within best = elim (decLt best 1) [ yes l ↦ rw (lt-ltb best 1 l) (omega arith) | no l ↦ rw (le-ltb best 1 (omega arith)) (omega arith) ]

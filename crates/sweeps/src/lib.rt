@@ -86,17 +86,17 @@ pub fn other_of(k: u16, p: u16) -> u16
     p + k - 2 * k * at_least(p, k)
 }
 
-// ---- one hidden place or number. The first number of the table is below 32768, so z is 0; the compiler cannot know that,
-// and makes no jump of a test to which z is added.
+// ---- one hidden place or number
 
-// The number at the hidden place p of the m places from o.
+// The number at the hidden place p of the m places from o. The first number of the table is below 32768, so z is 0; the
+// compiler cannot know that, and makes no jump of a test to which z is added.
 pub fn look_at(xs: &[u16], o: usize, m: usize, p: u16) -> u16
     requires { ⌜ (0 < m) × (m ≤ 1024) × (o + m ≤ length (now xs)) × (getD (now xs) o 0 < 32768) × (p < 32768) ⌝ }
     ensures { λ r. ⌜ r ≡ look (λ i. o + i) m (now (xs .entry)) p ⌝ }
 {
     let z = xs[o] / 32768;
     let mut g = p & mask(at_least(p, m as u16));
-    let mut c = z;
+    let mut c = 0u16;
     let mut i = 0;
     while i < m {
         g = g | (xs[o + i] & mask((c == p) as u16 + z));
@@ -108,15 +108,14 @@ pub fn look_at(xs: &[u16], o: usize, m: usize, p: u16) -> u16
 
 // The place of the hidden number a among the m places from o: the highest that holds it.
 pub fn seek_for(xs: &[u16], o: usize, m: usize, a: u16) -> u16
-    requires { ⌜ (0 < m) × (m ≤ 1024) × (o + m ≤ length (now xs)) × (getD (now xs) o 0 < 32768) ⌝ }
+    requires { ⌜ (m ≤ 1024) × (o + m ≤ length (now xs)) ⌝ }
     ensures { λ r. ⌜ r ≡ seek (λ i. o + i) m (now (xs .entry)) a ⌝ }
 {
-    let z = xs[o] / 32768;
     let mut best = 0u16;
-    let mut c = z + 1;
+    let mut c = 1u16;
     let mut i = 0;
     while i < m {
-        best = most(best, c & mask((xs[o + i] == a) as u16 + z));
+        best = most(c & mask((xs[o + i] == a) as u16), best);
         c += 1;
         i += 1;
     }
