@@ -49,15 +49,14 @@ loop-less : tie.Need-loop-less Inv-loop μ-loop
 loop-less c = omega arith
 
 loop-again : tie.Need-loop-again Inv-loop μ-loop
-loop-again c = 
+loop-again c =
     let l = c .before .before .before .before .loop in
     let a = c .before .before .before .before .before .before .args in
-    let b = eqb (getD (a .xs .now) (a .o + l .i) 0) (a .a) in
-    (
+    let b = eqb (getD (a .xs .now) (a .o + l .i) 0) (a .a) in (
       (omega arith, omega arith),
       rw (c .most .ensures)
-      (seek-step (a .xs .now) (a .o) (a .a) (l .i) (l .best) _ (l .inv .1)
-      (rw (c .before .mask .ensures, under-test b (l .c) (omega arith), l .inv .0 .1))),
+          (seek-step (a .xs .now) (a .o) (a .a) (l .i) (l .best) _ (l .inv .1)
+          (rw (c .before .mask .ensures, under-test b (l .c) (omega arith), l .inv .0 .1))),
     )
 
 at-least-requires : tie.Need-at-least-requires Inv-loop μ-loop
@@ -70,7 +69,7 @@ pick-requires : tie.Need-pick-requires Inv-loop μ-loop
 pick-requires c κs = rw (c .at-least .ensures) (digit-small (not (ltb (c .before .before .loop .best) 1)))
 
 returns : tie.Need-returns Inv-loop μ-loop
-returns c = 
+returns c =
     let l = c .before .before .before .loop in
     let a = c .before .before .before .before .before .args in
     let e : l .i ≡ a .m = omega arith in
