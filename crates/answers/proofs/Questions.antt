@@ -8,7 +8,7 @@ use native.Mathlib.Numerals.{add-one}
 use native.Mathlib.Omega.{arith}
 use native.Mathlib.Decide.{decLt, ℕ-discrete}
 use borrow.Author.Tests.{eq-eqb, ne-eqb, eqb-true}
-use Rattle.answers.specs.Questions.{Question, ask, askEach, firstBadFrom, firstBad, Verdict, allYes, noAt, firstNo}
+use Rattle.answers.specs.Questions.{Question, ask, askEach, firstBadFrom, firstBad, Verdict, allYes, noAt, firstNo, EachYes}
 
 -- a question that gets a yes is passed over; one that gets a no ends the sequence
 pub asked-yes : (q p : ℕ) (b : Bool) (qs : List Question) → b ≡ true → firstNo (ask q p b ∷ qs) ≡ firstNo qs
@@ -42,6 +42,15 @@ pub record Passed (b : Bool) (qs : List Question) : Type 0 where
 pub passed : (q p : ℕ) (b : Bool) (qs : List Question) → firstNo (ask q p b ∷ qs) ≡ allYes → Passed b qs
 passed q p true qs e = record { here = refl; rest = e }
 passed q p false qs e = absurd (let z : noAt q p ≡ allYes = e in let y : _≡_ {A = ℕ} 0 1 = cc in omega arith)
+
+-- no question gets a no exactly when each gets a yes
+pub each-yes : (qs : List Question) → firstNo qs ≡ allYes → EachYes qs
+each-yes [] e = tt
+each-yes (q ∷ qs) e = let P = passed (q .number) (q .place) (q .yes) qs e in (P .here, each-yes qs (P .rest))
+
+pub yes-each : (qs : List Question) → EachYes qs → firstNo qs ≡ allYes
+yes-each [] y = refl
+yes-each (q ∷ qs) y = rw (y .0) (yes-each qs (y .1))
 
 -- ---- the first bad index
 

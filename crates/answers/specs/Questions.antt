@@ -1,5 +1,6 @@
 -- The questions of a call, asked in their sequence: a first no ends it (01, 'The questions').
 -- Assumes nothing: these are definitions.
+use mathlib.Core.Path.{_≡_}
 use mathlib.Core.Bool.{Bool, true, false}
 use mathlib.Core.List.{List, [], _∷_}
 use Prim.Native.Nat.{ℕ, zero, suc}
@@ -36,3 +37,8 @@ pub data Verdict : Type 0 where
 abbrev pub firstNo : List Question → Verdict
 firstNo [] = allYes
 firstNo (q ∷ qs) = elim (q .yes) [ true ↦ firstNo qs | false ↦ noAt (q .number) (q .place) ]
+
+-- every question of a sequence gets a yes
+abbrev pub EachYes : List Question → Type 0
+EachYes [] = Unit {0}
+EachYes (q ∷ qs) = (q .yes ≡ true) × EachYes qs

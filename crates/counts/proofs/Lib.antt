@@ -1,2 +1,6 @@
 pub mod Rule
 pub mod Table
+pub mod DigitCount
+pub mod Formula
+pub mod Bounds
+pub mod Values

@@ -1,13 +1,15 @@
 -- The rules of W and E without the depth: both are counts by halves, so one argument serves both.
 -- Assumes nothing.
-use mathlib.Core.Bool.{Bool, true, false}
 use mathlib.Core.Path.{_≡_, refl, sym, _∙_}
-use Prim.Native.Nat.{ℕ, zero, suc, _+_, _-_, _*_, _/_, _≤_, _<_}
+use Prim.Native.Nat.{ℕ, zero, suc, _+_, _-_, _*_, _/_, _%_, _≤_, _<_}
 use native.Mathlib.Omega.{arith}
 use native.Mathlib.Decide.{decLt}
-use lib.Dec.{ltb, eqb}
 use borrow.Author.Tests.{lt-ltb, le-ltb, ne-eqb}
 use Rattle.counts.specs.Counts.{W, E, up, byHalves, switchRule, entryRule}
+
+-- half of n rounded up, without a sum that could exceed n
+pub up-parts : (n : ℕ) → n / 2 + n % 2 ≡ up n
+up-parts n = omega arith
 
 module _ (rule : ℕ → ℕ → ℕ → ℕ) where
   pub none : (d n : ℕ) → n < 2 → byHalves rule d n ≡ 0

@@ -1,7 +1,7 @@
 -- The counts of a network of n places, by their recursive rules.
 -- Assumes nothing: these are definitions.
 use Prim.Native.Nat.{ℕ, zero, suc, _+_, _-_, _*_, _/_}
-use mathlib.Core.Bool.{Bool, true, false}
+use mathlib.Core.Bool.{true, false}
 use lib.Dec.{ltb, eqb}
 
 -- half of n, rounded up: the places of the top network. The bottom network has the other `n - up n`
@@ -34,7 +34,8 @@ E n = byHalves entryRule n n
 -- the count of binary digits of x, of which at most d are counted
 unfoldable pub digitsIn : ℕ → ℕ → ℕ
 digitsIn zero x = 0
-digitsIn (suc d) x = elim (eqb x 0) [ true ↦ 0 | false ↦ 1 + digitsIn d (x / 2) ]
+digitsIn (suc d) zero = 0
+digitsIn (suc d) (suc x) = 1 + digitsIn d (suc x / 2)
 
 -- L, the count of binary digits of x: none for 0, and never more than x
 unfoldable pub L : ℕ → ℕ

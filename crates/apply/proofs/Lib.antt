@@ -1,0 +1,5 @@
+pub mod Asked
+pub mod Halves
+pub mod Network
+pub mod Whole
+pub mod Outcome

@@ -1,0 +1,68 @@
+-- Acceptance, both ways, and what an accepted call comes to.
+-- Assumes nothing.
+use mathlib.Core.Path.{_≡_, refl, sym, ap, _∙_}
+use mathlib.Core.List.{List}
+use Prim.Native.Nat.{ℕ, _*_, _≤_}
+use native.Mathlib.Omega.{arith}
+use lib.ListN.{length}
+use Rattle.answers.specs.Answers.{accepted}
+use Rattle.answers.specs.Questions.{Verdict, allYes, firstNo, EachYes}
+use Rattle.answers.specs.Buffers.{overlay}
+use Rattle.answers.specs.Outcomes.{Logged, logged, settledLogged}
+use Rattle.answers.proofs.Buffers.{overlay-whole}
+use Rattle.answers.proofs.Questions.{each-yes, yes-each}
+use Rattle.counts.specs.Counts.{W}
+use Rattle.network.specs.Wiring.{paper}
+use Rattle.network.specs.Blocks.{moved, movedBack}
+use Rattle.network.specs.Log.{words, applyEntries, inverseEntries}
+use Rattle.network.proofs.Paper.{paper-lawful}
+use Rattle.network.proofs.Moved.{length-moved, length-movedBack, movedBack-moved}
+use Rattle.apply.specs.Calls.{applyQuestions, applyCall, inverseCall}
+use Rattle.apply.proofs.Asked.{Fits, passes, fit-passes, asked-well}
+
+-- what a call that is not refused comes to
+settled-yes : (v : Verdict) (count : ℕ) (words b entries l : List ℕ) → v ≡ allYes → length words ≡ length b
+    → settledLogged v count words b entries l ≡ logged (accepted count) words (overlay l 0 entries)
+settled-yes v count words b entries l e long = rw e (ap (λ bytes. logged (accepted count) bytes (overlay l 0 entries)) (overlay-whole b words long))
+
+module _ (n width : ℕ) (b bits l : List ℕ) where
+  -- number 0 only where every question gets a yes
+  pub apply-asked : applyCall n width b bits l .answer .number ≡ 0 → EachYes (applyQuestions n width (length b) bits (length l))
+  unfolding applyCall
+  apply-asked e = each-yes (applyQuestions n width (length b) bits (length l)) (asked-well n width (length b) bits (length l) (W n) e)
+
+  pub inverse-asked : inverseCall n width b bits l .answer .number ≡ 0 → EachYes (applyQuestions n width (length b) bits (length l))
+  unfolding inverseCall
+  inverse-asked e = each-yes (applyQuestions n width (length b) bits (length l)) (asked-well n width (length b) bits (length l) (W n) e)
+
+  -- and every setting of 0s and 1s, with blocks and a log of the right lengths, gets a yes to each
+  pub fit-asked : Fits n width (length b) bits (length l) → EachYes (applyQuestions n width (length b) bits (length l))
+  fit-asked f = each-yes (applyQuestions n width (length b) bits (length l)) (fit-passes f)
+
+  pub asked-fit : EachYes (applyQuestions n width (length b) bits (length l)) → Fits n width (length b) bits (length l)
+  asked-fit y = passes n width (length b) bits (length l) (yes-each (applyQuestions n width (length b) bits (length l)) y)
+
+  module _ (f : Fits n width (length b) bits (length l)) where
+    pub apply-accepted : applyCall n width b bits l ≡ logged (accepted (W n)) (moved paper n width bits b) (overlay l 0 (words (applyEntries paper n)))
+    unfolding applyCall
+    apply-accepted =
+        settled-yes (firstNo (applyQuestions n width (length b) bits (length l))) (W n) (moved paper n width bits b) b (words (applyEntries paper n)) l
+        (fit-passes f) (length-moved paper-lawful n width bits b (f .whole) ∙ sym (f .whole))
+
+    pub inverse-accepted : inverseCall n width b bits l ≡ logged (accepted (W n)) (movedBack paper n width bits b) (overlay l 0 (words (inverseEntries paper n)))
+    unfolding inverseCall
+    inverse-accepted =
+        settled-yes (firstNo (applyQuestions n width (length b) bits (length l))) (W n) (movedBack paper n width bits b) b (words (inverseEntries paper n)) l
+        (fit-passes f) (length-movedBack paper-lawful n width bits b (f .whole) ∙ sym (f .whole))
+
+-- what was mixed and returned under the same bits is as it was
+pub returned-home : (n width : ℕ) (b bits l l′ : List ℕ) → Fits n width (length b) bits (length l) → 3 * W n ≤ length l′
+    → inverseCall n width (applyCall n width b bits l .buffer) bits l′ .buffer ≡ b
+returned-home n width b bits l l′ f room =
+    let b′ = moved paper n width bits b in
+    let long : length b′ ≡ n * width = length-moved paper-lawful n width bits b (f .whole) in
+    let g : Fits n width (length b′) bits (length l′) =
+    record { places = f .places; low = f .low; high = f .high; whole = long; count = f .count; words = room; settings = f .settings } in
+    ap (λ c. inverseCall n width (c .buffer) bits l′ .buffer) (apply-accepted n width b bits l f)
+    ∙ ap (λ c. c .buffer) (inverse-accepted n width b′ bits l′ g)
+    ∙ movedBack-moved paper-lawful n width bits b (f .whole)

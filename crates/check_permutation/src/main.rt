@@ -1,0 +1,188 @@
+// Runs the permutation record and the shuffle against a second, plainly written computation, and prints how many
+// outcomes were compared and how many were equal.
+mod plain;
+mod refusals;
+
+use permutation::Permutation;
+use plain::Tally;
+ghost use Prim.Native.Nat.{_≤_};
+
+// Every list of n entries from 0 to 5, one for each number below `total`: from a list.
+fn check_lists(before: Tally, n: usize, total: usize) -> Tally
+    requires { ⌜ (n ≤ 1024) × (total ≤ 65536) ⌝ }
+{
+    let mut t = before;
+    let mut c = 0;
+    while c < total {
+        let e = plain::digits(c, n);
+        t = check_list(t, e, n);
+        c += 1;
+    }
+    t
+}
+
+fn check_list(t: Tally, e: [u16; 1024], n: usize) -> Tally
+    requires { ⌜ n ≤ 1024 ⌝ }
+{
+    let bad = plain::first_bad(&e, n);
+    let r = Permutation::from_list(&e[..n]);
+    if bad < n {
+        return plain::compare(t, r, 6, bad, 0, [0u16; 1024]);
+    }
+    plain::accepted(t, r, 0, n, e)
+}
+
+// Every permutation among those lists: the other calls.
+fn check_permutations(before: Tally, n: usize, total: usize) -> Tally
+    requires { ⌜ (n ≤ 1024) × (total ≤ 65536) ⌝ }
+{
+    let mut t = before;
+    let mut c = 0;
+    while c < total {
+        let e = plain::digits(c, n);
+        if plain::first_bad(&e, n) == n {
+            t = check_exchanges(check_calls(t, e, plain::rotation(n), n), e, n);
+        }
+        c += 1;
+    }
+    t
+}
+
+// One permutation, alone and before a second one.
+fn check_calls(t: Tally, e: [u16; 1024], s: [u16; 1024], n: usize) -> Tally
+    requires { ⌜ n ≤ 1024 ⌝ }
+{
+    let p = Permutation {
+        length: n,
+        entries: e,
+    };
+    let q = Permutation {
+        length: n,
+        entries: s,
+    };
+    let t1 = plain::accepted(t, p.inverse(), 0, n, plain::inverse(&e, n));
+    let t2 = plain::accepted(t1, p.fixed_points(), plain::fixed(&e, n), n, e);
+    let t3 = plain::accepted(t2, p.combine(q), 0, n, plain::combine(&e, &s, n));
+    check_group(t3, p, n)
+}
+
+// Inverse twice, and combined with the inverse.
+fn check_group(t: Tally, p: Permutation, n: usize) -> Tally
+    requires { ⌜ n ≤ 1024 ⌝ }
+{
+    let r = p.inverse();
+    let back = r.permutation;
+    let e = p.entries;
+    let t1 = plain::accepted(t, back.inverse(), 0, n, e);
+    let t2 = plain::accepted(t1, p.combine(back), 0, n, plain::identity(n));
+    plain::accepted(t2, Permutation::identity(n), 0, n, plain::identity(n))
+}
+
+// All places i and j up to the length itself.
+fn check_exchanges(before: Tally, e: [u16; 1024], n: usize) -> Tally
+    requires { ⌜ n ≤ 1024 ⌝ }
+{
+    let mut t = before;
+    let mut i = 0;
+    while i <= n {
+        t = check_row(t, e, n, i);
+        i += 1;
+    }
+    t
+}
+
+fn check_row(before: Tally, e: [u16; 1024], n: usize, i: usize) -> Tally
+    requires { ⌜ n ≤ 1024 ⌝ }
+{
+    let mut t = before;
+    let mut j = 0;
+    while j <= n {
+        t = check_exchange(t, e, n, i, j);
+        j += 1;
+    }
+    t
+}
+
+fn check_exchange(t: Tally, e: [u16; 1024], n: usize, i: usize, j: usize) -> Tally {
+    let p = Permutation {
+        length: n,
+        entries: e,
+    };
+    let r = p.exchange(i, j);
+    if n <= i {
+        return plain::compare(t, r, 14, 0, n, e);
+    }
+    if n <= j {
+        return plain::compare(t, r, 14, 0, n, e);
+    }
+    plain::accepted(t, r, 0, n, plain::exchange(e, i, j))
+}
+
+// Shuffles of n places by pseudo-random words, and what they give under the calls.
+fn check_shuffle(t: Tally, n: usize, seed: u32) -> Tally
+    requires { ⌜ n ≤ 1024 ⌝ }
+{
+    let words = plain::words(seed);
+    let mut out = [7u16; 1024];
+    let a = shuffle::shuffle(n, &words[..n], &mut out);
+    let right = plain::shuffle(&words, n);
+    let t1 = plain::tallied(t, plain::alike(&out, &right));
+    let t2 = plain::tallied(t1, plain::answered(a, 0, 0, n));
+    let e = plain::front(&right, n);
+    let other = plain::words(plain::next(seed));
+    let s = plain::shuffle(&other, n);
+    check_calls(check_list(t2, e, n), e, plain::front(&s, n), n)
+}
+
+// Sizes 0, 31, 62, .. and 1,024.
+fn check_shuffles(before: Tally) -> Tally {
+    let mut t = before;
+    let mut k = 0;
+    let mut seed: u32 = 20240229;
+    while k < 33 {
+        t = check_shuffle(t, k * 31, seed);
+        seed = plain::next(seed);
+        k += 1;
+    }
+    check_shuffle(t, 1024, seed)
+}
+
+fn print(label: &[u8], t: Tally) {
+    io::write_all(1, label);
+    io::write_all(1, b": compared ");
+    io::print_decimal(1, t.compared);
+    io::write_all(1, b", equal ");
+    io::print_decimal(1, t.equal);
+    io::write_all(1, b"\n");
+}
+
+fn small_lists(t: Tally) -> Tally {
+    let t0 = check_lists(t, 0, 1);
+    let t1 = check_lists(t0, 1, 6);
+    let t2 = check_lists(t1, 2, 36);
+    let t3 = check_lists(t2, 3, 216);
+    let t4 = check_lists(t3, 4, 1296);
+    check_lists(t4, 5, 7776)
+}
+
+fn small_permutations(t: Tally) -> Tally {
+    let t0 = check_permutations(t, 0, 1);
+    let t1 = check_permutations(t0, 1, 6);
+    let t2 = check_permutations(t1, 2, 36);
+    let t3 = check_permutations(t2, 3, 216);
+    let t4 = check_permutations(t3, 4, 1296);
+    check_permutations(t4, 5, 7776)
+}
+
+fn main() {
+    print(b"lists of up to 5 entries", small_lists(plain::none()));
+    print(
+        b"calls on permutations of up to 5 places",
+        small_permutations(plain::none()),
+    );
+    print(
+        b"shuffles of up to 1024 places, and calls on them",
+        check_shuffles(plain::none()),
+    );
+    print(b"refusals", refusals::all(plain::none()));
+}

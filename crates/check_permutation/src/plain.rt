@@ -1,0 +1,272 @@
+// A plain second computation: marks and searches, on arrays of 1,024 entries.
+use permutation::Reply;
+ghost use Prim.Native.Nat.{_≤_};
+
+// How many outcomes were compared, and how many were equal.
+pub struct Tally {
+    pub compared: u64,
+    pub equal: u64,
+}
+
+pub fn none() -> Tally {
+    Tally {
+        compared: 0,
+        equal: 0,
+    }
+}
+
+pub fn tallied(t: Tally, same: bool) -> Tally {
+    Tally {
+        compared: std::num::wrapping_add_u64(t.compared, 1),
+        equal: std::num::wrapping_add_u64(t.equal, same as u64),
+    }
+}
+
+fn wide(x: u16) -> usize {
+    x as usize
+}
+
+fn wider(x: u32) -> usize {
+    x as usize
+}
+
+fn narrow(x: usize) -> u16 {
+    if x < 65536 { x as u16 } else { 65535 }
+}
+
+fn at(e: &[u16; 1024], i: usize) -> u16 {
+    if i < 1024 { e[i] } else { 0 }
+}
+
+fn put(e: [u16; 1024], i: usize, x: u16) -> [u16; 1024] {
+    let mut out = e;
+    if i < 1024 {
+        out[i] = x;
+    }
+    out
+}
+
+pub fn alike(a: &[u16; 1024], b: &[u16; 1024]) -> bool {
+    let mut i = 0;
+    while i < 1024 {
+        if a[i] != b[i] {
+            return false;
+        }
+        i += 1;
+    }
+    true
+}
+
+pub fn answered(a: answers::Answer, number: usize, place: usize, count: usize) -> bool {
+    if a.number != number {
+        return false;
+    }
+    if a.place != place {
+        return false;
+    }
+    a.count == count
+}
+
+// A reply with this answer and this record.
+fn replied(
+    r: Reply,
+    number: usize,
+    place: usize,
+    count: usize,
+    length: usize,
+    e: &[u16; 1024],
+) -> bool {
+    let p = r.permutation;
+    let a = r.answer;
+    let entries = p.entries;
+    if p.length != length {
+        return false;
+    }
+    if answered(a, number, place, count) {
+        return alike(&entries, e);
+    }
+    false
+}
+
+pub fn compare(
+    t: Tally,
+    r: Reply,
+    number: usize,
+    place: usize,
+    length: usize,
+    e: [u16; 1024],
+) -> Tally {
+    tallied(t, replied(r, number, place, 0, length, &e))
+}
+
+pub fn accepted(t: Tally, r: Reply, count: usize, length: usize, e: [u16; 1024]) -> Tally {
+    tallied(t, replied(r, 0, 0, count, length, &e))
+}
+
+// The first of n entries that is n or more, or was marked before; else n.
+pub fn first_bad(e: &[u16; 1024], n: usize) -> usize
+    requires { ⌜ n ≤ 1024 ⌝ }
+{
+    let mut seen = [0u8; 1024];
+    let mut i = 0;
+    while i < n {
+        let x = wide(e[i]);
+        if n <= x {
+            return i;
+        }
+        if seen[x] == 1 {
+            return i;
+        }
+        seen[x] = 1;
+        i += 1;
+    }
+    n
+}
+
+// The last place that holds v, searched from the back; else 0.
+fn place_of(e: &[u16; 1024], n: usize, v: usize) -> usize
+    requires { ⌜ n ≤ 1024 ⌝ }
+{
+    let mut i = n;
+    while 0 < i {
+        i -= 1;
+        if wide(e[i]) == v {
+            return i;
+        }
+    }
+    0
+}
+
+pub fn inverse(e: &[u16; 1024], n: usize) -> [u16; 1024]
+    requires { ⌜ n ≤ 1024 ⌝ }
+{
+    let mut out = [0u16; 1024];
+    let mut v = 0;
+    while v < n {
+        out[v] = narrow(place_of(e, n, v));
+        v += 1;
+    }
+    out
+}
+
+pub fn combine(first: &[u16; 1024], second: &[u16; 1024], n: usize) -> [u16; 1024]
+    requires { ⌜ n ≤ 1024 ⌝ }
+{
+    let mut out = [0u16; 1024];
+    let mut i = 0;
+    while i < n {
+        out[i] = at(second, wide(first[i]));
+        i += 1;
+    }
+    out
+}
+
+pub fn exchange(e: [u16; 1024], i: usize, j: usize) -> [u16; 1024] {
+    put(put(e, i, at(&e, j)), j, at(&e, i))
+}
+
+// How many entries stay home, one taken off n for each that does not.
+pub fn fixed(e: &[u16; 1024], n: usize) -> usize
+    requires { ⌜ n ≤ 1024 ⌝ }
+{
+    let mut c = n;
+    let mut i = 0;
+    while i < n {
+        if wide(e[i]) != i {
+            c = std::num::wrapping_sub_usize(c, 1);
+        }
+        i += 1;
+    }
+    c
+}
+
+pub fn identity(n: usize) -> [u16; 1024]
+    requires { ⌜ n ≤ 1024 ⌝ }
+{
+    let mut out = [0u16; 1024];
+    let mut i = 0;
+    while i < n {
+        out[i] = narrow(i);
+        i += 1;
+    }
+    out
+}
+
+// Each place to the next, the last to 0.
+pub fn rotation(n: usize) -> [u16; 1024]
+    requires { ⌜ n ≤ 1024 ⌝ }
+{
+    let mut out = [0u16; 1024];
+    let mut i = 1;
+    while i < n {
+        out[i - 1] = narrow(i);
+        i += 1;
+    }
+    out
+}
+
+// The digits of c to base 6.
+pub fn digits(c: usize, n: usize) -> [u16; 1024]
+    requires { ⌜ n ≤ 1024 ⌝ }
+{
+    let mut out = [0u16; 1024];
+    let mut left = c;
+    let mut i = 0;
+    while i < n {
+        out[i] = narrow(left % 6);
+        left = left / 6;
+        i += 1;
+    }
+    out
+}
+
+// The first n entries, then 0.
+pub fn front(e: &[u16; 1024], n: usize) -> [u16; 1024]
+    requires { ⌜ n ≤ 1024 ⌝ }
+{
+    let mut out = [0u16; 1024];
+    let mut i = 0;
+    while i < n {
+        out[i] = e[i];
+        i += 1;
+    }
+    out
+}
+
+// A pseudo-random sequence.
+pub fn next(x: u32) -> u32 {
+    let a = x ^ (x << 13);
+    let b = a ^ (a >> 17);
+    b ^ (b << 5)
+}
+
+pub fn words(seed: u32) -> [u32; 1024] {
+    let mut out = [0u32; 1024];
+    let mut x = seed;
+    let mut i = 0;
+    while i < 1024 {
+        x = next(x);
+        out[i] = x;
+        i += 1;
+    }
+    out
+}
+
+// 0 to n - 1, then 7s; then each place exchanged with one that is not before it.
+pub fn shuffle(words: &[u32; 1024], n: usize) -> [u16; 1024]
+    requires { ⌜ n ≤ 1024 ⌝ }
+{
+    let mut out = [7u16; 1024];
+    let mut k = 0;
+    while k < n {
+        out[k] = narrow(k);
+        k += 1;
+    }
+    let mut i = 0;
+    while i < n {
+        let j = std::num::wrapping_add_usize(i, wider(words[i]) % (n - i));
+        out = exchange(out, i, j);
+        i += 1;
+    }
+    out
+}

@@ -1,0 +1,5 @@
+pub mod Asked
+pub mod Settled
+pub mod Demands
+pub mod Carrying
+pub mod Month

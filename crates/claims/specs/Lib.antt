@@ -1,0 +1,4 @@
+pub mod Calls
+pub mod Demands
+pub mod Carrying
+pub mod Month

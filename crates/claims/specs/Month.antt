@@ -1,0 +1,90 @@
+-- The starred month cases of 01, as one table: what each case hands in, and what has to come of it.
+-- Assumes nothing: these are definitions.
+use mathlib.Core.List.{List, [], _∷_, _++_}
+use Prim.Native.Nat.{ℕ, _*_}
+use lib.ListN.{length, replicate}
+use Rattle.answers.specs.declared.Answer.{Answer}
+use Rattle.answers.specs.Answers.{refusal, accepted}
+use Rattle.answers.specs.Outcomes.{Outcome, outcome, Logged, logged}
+use Rattle.counts.specs.Counts.{W, E}
+use Rattle.codec.specs.Calls.{writeSheet, readSheet}
+use Rattle.shuffle.specs.Shuffled.{shuffleCall}
+use Rattle.claims.specs.Calls.{Call, set, mix, return, outcomeOf}
+
+pub data Case : Type 0 where
+  -- an order, its setting and its sheet
+  sets : (order setting sheet : List ℕ) → Case
+  -- blocks of one byte mixed, or returned, by a setting
+  mixes : (setting blocks result : List ℕ) → Case
+  returns : (setting blocks result : List ℕ) → Case
+  -- an order drawn from words
+  draws : (words order : List ℕ) → Case
+  -- an order that set refuses, and a sheet that is refused: number and place
+  refusesOrder : (order : List ℕ) (number place : ℕ) → Case
+  refusesSheet : (sheet : List ℕ) (number place : ℕ) → Case
+
+-- lent memory, all 5s, so that what is kept shows
+abbrev pub lent : ℕ → List ℕ
+lent size = replicate size 5
+
+-- what a case comes to: the answers of its calls, and the buffers that they left. Logs are lent three words too many
+pub record Result : Type 0 where
+  pub answers : List Answer
+  pub buffers : List (List ℕ)
+
+abbrev pub ofLogged : Logged → Result
+ofLogged o = record { answers = o .answer ∷ []; buffers = o .buffer ∷ [] }
+
+abbrev pub ofOutcome : Outcome → Result
+ofOutcome o = record { answers = o .answer ∷ []; buffers = o .buffer ∷ [] }
+
+abbrev pub both : Result → Result → Result
+both a b = record { answers = a .answers ++ b .answers; buffers = a .buffers ++ b .buffers }
+
+abbrev pub runCase : Case → Result
+runCase (sets order setting sheet) =
+    both
+    (ofLogged (outcomeOf (set order (lent (W (length order))) (lent (3 * E (length order))))))
+    (ofOutcome (writeSheet (length order) setting (lent (length sheet))))
+runCase (mixes setting blocks result) = ofLogged (outcomeOf (mix (length blocks) 1 blocks setting (lent (3 * length setting))))
+runCase (returns setting blocks result) = ofLogged (outcomeOf (return (length blocks) 1 blocks setting (lent (3 * length setting))))
+runCase (draws words order) = ofOutcome (shuffleCall (length words) words (lent (length order)))
+runCase (refusesOrder order number place) =
+    let o = outcomeOf (set order (lent (W (length order))) (lent (3 * E (length order)))) in
+    record { answers = o .answer ∷ []; buffers = o .buffer ∷ o .log ∷ [] }
+runCase (refusesSheet sheet number place) = ofOutcome (readSheet sheet (lent 9))
+
+abbrev pub expected : Case → Result
+expected (sets order setting sheet) =
+    record { answers = accepted (E (length order)) ∷ accepted (length sheet) ∷ []; buffers = setting ∷ sheet ∷ [] }
+expected (mixes setting blocks result) = record { answers = accepted (length setting) ∷ []; buffers = result ∷ [] }
+expected (returns setting blocks result) = record { answers = accepted (length setting) ∷ []; buffers = result ∷ [] }
+expected (draws words order) = record { answers = accepted (length words) ∷ []; buffers = order ∷ [] }
+expected (refusesOrder order number place) =
+    record { answers = refusal number place ∷ []; buffers = lent (W (length order)) ∷ lent (3 * E (length order)) ∷ [] }
+expected (refusesSheet sheet number place) = record { answers = refusal number place ∷ []; buffers = lent 9 ∷ [] }
+
+-- case g's setting
+abbrev pub settingG : List ℕ
+settingG = 0 ∷ 0 ∷ 0 ∷ 1 ∷ 0 ∷ 0 ∷ 0 ∷ 1 ∷ 1 ∷ 1 ∷ 1 ∷ 0 ∷ 1 ∷ 0 ∷ 1 ∷ 0 ∷ 1 ∷ 1 ∷ 1 ∷ 0 ∷ 0 ∷ []
+
+-- a to l, in 01's sequence; blocks are letters
+unfoldable pub cases : List Case
+cases =
+    sets [] [] (0x01 ∷ 0x00 ∷ [])
+    ∷ sets (0 ∷ []) [] (0x01 ∷ 0x01 ∷ [])
+    ∷ sets (1 ∷ 0 ∷ []) (1 ∷ []) (0x01 ∷ 0x02 ∷ 0x01 ∷ [])
+    ∷ sets (1 ∷ 2 ∷ 0 ∷ []) (0 ∷ 1 ∷ 1 ∷ []) (0x01 ∷ 0x03 ∷ 0x06 ∷ [])
+    ∷ sets (1 ∷ 3 ∷ 0 ∷ 2 ∷ []) (1 ∷ 0 ∷ 1 ∷ 0 ∷ 1 ∷ []) (0x01 ∷ 0x04 ∷ 0x15 ∷ [])
+    ∷ sets (1 ∷ 2 ∷ 3 ∷ 4 ∷ 0 ∷ []) (0 ∷ 0 ∷ 0 ∷ 1 ∷ 1 ∷ 1 ∷ 1 ∷ 0 ∷ []) (0x01 ∷ 0x05 ∷ 0x78 ∷ [])
+    ∷ sets (6 ∷ 2 ∷ 3 ∷ 7 ∷ 5 ∷ 1 ∷ 8 ∷ 0 ∷ 4 ∷ []) settingG (0x01 ∷ 0x09 ∷ 0x88 ∷ 0x2F ∷ 0x1D ∷ [])
+    ∷ mixes settingG
+    (97 ∷ 98 ∷ 99 ∷ 100 ∷ 101 ∷ 102 ∷ 103 ∷ 104 ∷ 105 ∷ [])
+    (104 ∷ 102 ∷ 98 ∷ 99 ∷ 105 ∷ 101 ∷ 97 ∷ 100 ∷ 103 ∷ [])
+    ∷ returns settingG
+    (104 ∷ 102 ∷ 98 ∷ 99 ∷ 105 ∷ 101 ∷ 97 ∷ 100 ∷ 103 ∷ [])
+    (97 ∷ 98 ∷ 99 ∷ 100 ∷ 101 ∷ 102 ∷ 103 ∷ 104 ∷ 105 ∷ [])
+    ∷ draws (2 ∷ 1 ∷ 0 ∷ []) (2 ∷ 0 ∷ 1 ∷ [])
+    ∷ refusesOrder (0 ∷ 0 ∷ []) 6 1
+    ∷ refusesSheet (0x01 ∷ 0x03 ∷ 0x0E ∷ []) 11 2
+    ∷ []

@@ -1,0 +1,105 @@
+-- The call from its questions: each refusal, and the accepted call.
+-- Assumes nothing.
+use mathlib.Core.Path.{_≡_, refl, sym, ap, _∙_}
+use mathlib.Core.Bool.{true, false}
+use mathlib.Core.List.{List, [], _∷_}
+use Prim.Native.Nat.{ℕ, _+_, _*_, _≤_, _<_}
+use native.Mathlib.Omega.{arith}
+use native.Mathlib.Decide.{decLt}
+use lib.Dec.{leb, eqb}
+use lib.ListN.{length, getD, List·getD-eq-default}
+use borrow.Author.Tests.{le-leb, lt-leb, eq-eqb, ne-eqb}
+use Rattle.answers.specs.declared.Answer.{Answer}
+use Rattle.answers.specs.Answers.{refusal, accepted}
+use Rattle.answers.specs.Questions.{Question, ask, askEach, allYes, noAt, firstNo, firstBad}
+use Rattle.answers.specs.Outcomes.{logged}
+use Rattle.answers.proofs.Questions.{asked-yes, asked-no, all-good}
+use Rattle.answers.proofs.Outcomes.{logged-refused, logged-accepted}
+use Rattle.answers.proofs.Buffers.{overlay-whole}
+use Rattle.counts.specs.Counts.{W, E}
+use Rattle.network.specs.Wiring.{paper}
+use Rattle.network.specs.Log.{words}
+use Rattle.permutation.specs.Permutations.{goodEntry, firstBadEntry}
+use Rattle.permutation.proofs.Permutations.{passes-permutation}
+use Rattle.steps.specs.Sequence.{setEntries}
+use Rattle.steps.specs.Run.{settingOf}
+use Rattle.sweeps.specs.Tables.{Below}
+use Rattle.control.specs.Inner.{Sets}
+use Rattle.control.specs.Calls.{setQuestions, setCall}
+
+-- an order that passes question 6 has entries below its length
+pub below-passed : (order : List ℕ) → length order ≤ 1024 → firstBadEntry order ≡ length order → Below 1024 order
+unfolding Below
+below-passed order h e i = go (decLt i (length order))
+  where
+    go : Dec (i < length order) → getD order i 0 < 1024
+    go (yes l) = omega (arith, passes-permutation order e .below i l)
+    go (no l) = rw (List·getD-eq-default order 0 {n = i} (omega arith)) (omega arith)
+
+module _ (order bits log : List ℕ) where
+  from-6 : List Question
+  from-6 = askEach 6 (goodEntry (length order) order) (length order) ∷ []
+
+  from-5 : List Question
+  from-5 = ask 5 0 (leb (3 * E (length order)) (length log)) ∷ from-6
+
+  from-4 : List Question
+  from-4 = ask 4 0 (eqb (length bits) (W (length order))) ∷ from-5
+
+  -- what the questions come to
+  pub no-1 : 1024 < length order → firstNo (setQuestions order bits log) ≡ noAt 1 0
+  unfolding from-4 from-5 from-6
+  no-1 h = asked-no 1 0 (leb (length order) 1024) from-4 (lt-leb (length order) 1024 h)
+
+  module _ (h₁ : length order ≤ 1024) where
+    past-1 : firstNo (setQuestions order bits log) ≡ firstNo from-4
+    unfolding from-4 from-5 from-6
+    past-1 = asked-yes 1 0 (leb (length order) 1024) from-4 (le-leb (length order) 1024 h₁)
+
+    pub no-4 : (length bits ≡ W (length order) → ⊥) → firstNo (setQuestions order bits log) ≡ noAt 4 0
+    unfolding from-4
+    no-4 h = past-1 ∙ asked-no 4 0 (eqb (length bits) (W (length order))) from-5 (ne-eqb (length bits) (W (length order)) h)
+
+    module _ (h₄ : length bits ≡ W (length order)) where
+      past-4 : firstNo (setQuestions order bits log) ≡ firstNo from-5
+      unfolding from-4
+      past-4 = past-1 ∙ asked-yes 4 0 (eqb (length bits) (W (length order))) from-5 (eq-eqb (length bits) (W (length order)) h₄)
+
+      pub no-5 : length log < 3 * E (length order) → firstNo (setQuestions order bits log) ≡ noAt 5 0
+      unfolding from-5
+      no-5 h = past-4 ∙ asked-no 5 0 (leb (3 * E (length order)) (length log)) from-6 (lt-leb (3 * E (length order)) (length log) h)
+
+      module _ (h₅ : 3 * E (length order) ≤ length log) where
+        past-5 : firstNo (setQuestions order bits log) ≡ firstNo from-6
+        unfolding from-5
+        past-5 = past-4 ∙ asked-yes 5 0 (leb (3 * E (length order)) (length log)) from-6 (le-leb (3 * E (length order)) (length log) h₅)
+
+        pub no-6 : (firstBadEntry order ≡ length order → ⊥) → firstNo (setQuestions order bits log) ≡ noAt 6 (firstBadEntry order)
+        unfolding from-6
+        no-6 h =
+            past-5
+            ∙ asked-no 6 (firstBadEntry order) (eqb (firstBadEntry order) (length order)) [] (ne-eqb (firstBadEntry order) (length order) h)
+
+        pub all-yes : firstBadEntry order ≡ length order → firstNo (setQuestions order bits log) ≡ allYes
+        unfolding from-6
+        all-yes e =
+            past-5
+            ∙ asked-yes 6 (firstBadEntry order) (eqb (firstBadEntry order) (length order)) [] (eq-eqb (firstBadEntry order) (length order) e)
+
+  -- a refused call: nothing is written
+  pub refused : {a : Answer} {bits′ log′ : List ℕ} (q p : ℕ) → firstNo (setQuestions order bits log) ≡ noAt q p → a ≡ refusal q p → bits′ ≡ bits
+      → log′ ≡ log → logged a bits′ log′ ≡ setCall order bits log
+  unfolding setCall
+  refused q p e r b l =
+      logged-refused (firstNo (setQuestions order bits log)) (E (length order)) (settingOf paper order (setEntries paper (length order))) bits
+      (words (setEntries paper (length order))) log e r b l
+
+  -- an accepted call: what the setter left
+  pub taken : {a : Answer} {bits′ log′ : List ℕ} (count : ℕ) → firstNo (setQuestions order bits log) ≡ allYes → Sets order log count bits′ log′
+      → length bits′ ≡ length bits → a ≡ accepted count → logged a bits′ log′ ≡ setCall order bits log
+  unfolding setCall
+  taken count e S k r =
+      logged-accepted (firstNo (setQuestions order bits log)) (E (length order)) (settingOf paper order (setEntries paper (length order))) bits
+      (words (setEntries paper (length order))) log e (r ∙ ap accepted (S .count))
+      (S .bits-are ∙ sym (overlay-whole bits (settingOf paper order (setEntries paper (length order))) (ap length (sym (S .bits-are)) ∙ k)))
+      (S .log-is)

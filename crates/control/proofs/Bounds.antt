@@ -1,0 +1,300 @@
+-- Hidden numbers stay small: what each step does to the bounds of `Tidy`, and a whole network.
+-- Assumes nothing.
+use mathlib.Core.Path.{_≡_, refl, sym, ap, _∙_, subst, fun-ext}
+use mathlib.Core.Bool.{Bool, true, false, not, cond}
+use mathlib.Core.List.{List, [], _∷_}
+use Prim.Native.Nat.{ℕ, zero, suc, _+_, _-_, _*_, _/_, _%_, _≤_, _<_}
+use native.Mathlib.Nat.{add-assoc}
+use native.Mathlib.Omega.{arith}
+use native.Mathlib.Decide.{decLt}
+use lib.Dec.{ltb, eqb}
+use lib.ListN.{length, getD, set}
+use borrow.Author.Tests.{lt-ltb, le-ltb}
+use Rattle.answers.proofs.Questions.{bad-within}
+use Rattle.counts.specs.Counts.{up, W}
+use Rattle.counts.proofs.Rule.{W-none, W-more}
+use Rattle.network.specs.Wiring.{Side, paper}
+use Rattle.network.specs.Network.{Network, wires, split, network, switchCount, down}
+use Rattle.network.specs.Move.{switch}
+use Rattle.network.proofs.Shape.{Sized, none, some, sized, count-of}
+use Rattle.steps.specs.Sweeps.{look, seek, store, each, act, marked, noneMarked, lowestUnmarked}
+use Rattle.steps.specs.State.{State, Subnetwork, outputBit}
+use Rattle.steps.specs.Steps.{other, digit, step1, step2, step3, step4, step5, step6}
+use Rattle.steps.specs.Fold.{roundsOf, inputSteps, setNet}
+use Rattle.sweeps.specs.Tables.{Below}
+use Rattle.sweeps.proofs.Numbers.{digit-small}
+use Rattle.sweeps.proofs.Places.{each-ahead}
+use Rattle.control.specs.declared.Walk.{Walk}
+use Rattle.control.specs.Inner.{state, within, Tidy}
+
+-- ---- tables
+
+module _ (b : ℕ) where
+  set-below : (xs : List ℕ) (p v : ℕ) → ((z : ℕ) → getD xs z 0 < b) → v < b → (z : ℕ) → getD (set xs p v) z 0 < b
+  set-below [] p v h l z = h z
+  set-below (x ∷ xs) zero v h l zero = l
+  set-below (x ∷ xs) zero v h l (suc z) = h (suc z)
+  set-below (x ∷ xs) (suc p) v h l zero = h zero
+  set-below (x ∷ xs) (suc p) v h l (suc z) = set-below xs p v (λ y. h (suc y)) l z
+
+  pub store-below : (place : ℕ → ℕ) (m p a : ℕ) (xs : List ℕ) → Below b xs → a < b → Below b (store place m p a xs)
+  unfolding Below store
+  store-below place m p a xs h l = go (ltb p m)
+    where
+      go : (t : Bool) (z : ℕ) → getD (cond t (set xs (place p) a) xs) z 0 < b
+      go true z = set-below xs (place p) a h l z
+      go false z = h z
+
+  switch-below : (p q bit : ℕ) (xs : List ℕ) → Below b xs → Below b (switch 0 p q bit xs)
+  unfolding Below switch
+  switch-below p q bit xs h = go (eqb bit 1)
+    where
+      go : (t : Bool) (z : ℕ) → getD (cond t (set (set xs p (getD xs q 0)) q (getD xs p 0)) xs) z 0 < b
+      go true z = set-below (set xs p (getD xs q 0)) q (getD xs p 0) (set-below xs p (getD xs q 0) h (h q)) (h p) z
+      go false z = h z
+
+  pub act-below : (at : Side → ℕ) (bits : List ℕ) (n c : ℕ) (xs : List ℕ) → Below b xs → Below b (act at bits n c xs)
+  unfolding act
+  act-below at bits n zero xs h = h
+  act-below at bits n (suc c) xs h = switch-below _ _ _ (act at bits n c xs) (act-below at bits n c xs h)
+
+-- what a sweep puts at each place is below b, if so is what the table held below a
+pub each-below : (a b : ℕ) (place : ℕ → ℕ) (m : ℕ) (F : ℕ → ℕ → ℕ) (xs : List ℕ) → a ≤ b → Below a xs
+    → ((i x : ℕ) → x < b → F i x < b) → Below b (each place m F xs)
+unfolding Below each
+each-below a b place zero F xs l h f z = omega (arith, h z)
+each-below a b place (suc m) F xs l h f z =
+    set-below b (each place m F xs) (place m) _ (each-below a b place m F xs l h f) (f m _ (each-below a b place m F xs l h f (place m))) z
+
+pub below-more : (a b : ℕ) (xs : List ℕ) → a ≤ b → Below a xs → Below b xs
+unfolding Below
+below-more a b xs l h z = omega (arith, h z)
+
+-- ---- numbers
+
+pub pick-below : (b : Bool) {x y n : ℕ} → x < n → y < n → cond b x y < n
+pick-below true h g = h
+pick-below false h g = g
+
+pub look-below : (place : ℕ → ℕ) (m : ℕ) (xs : List ℕ) (p : ℕ) → Below 32768 xs → p < 32768 → look place m xs p < 32768
+unfolding look Below
+look-below place m xs p h l = pick-below (ltb p m) (h (place p)) l
+
+pub seek-below : (place : ℕ → ℕ) (m : ℕ) (xs : List ℕ) (a : ℕ) → m ≤ 1024 → a < 32768 → seek place m xs a < 32768
+unfolding seek
+seek-below place zero xs a h l = l
+seek-below place (suc m) xs a h l = pick-below (eqb (getD xs (place m) 0) a) (omega arith) (seek-below place m xs a (omega arith) l)
+
+pub other-below : (k q : ℕ) → k ≤ 1024 → q < 32768 → other paper k q < 32768
+other-below k q h l = go (decLt q k)
+  where
+    go : Dec (q < k) → other paper k q < 32768
+    go (yes t) = rw (lt-ltb q k t) (omega arith)
+    go (no t) = rw (le-ltb q k (omega arith)) (omega arith)
+
+pub pair-within : (k q : ℕ) → paper .dec k q .0 ≤ q
+pair-within k q = go (decLt q k)
+  where
+    go : Dec (q < k) → paper .dec k q .0 ≤ q
+    go (yes l) = rw (lt-ltb q k l) (omega arith)
+    go (no l) = rw (le-ltb q k (omega arith)) (omega arith)
+
+enc-within : (k q : ℕ) (t : Bool) → paper .enc k (q, t) ≤ q + k
+enc-within k q true = omega arith
+enc-within k q false = omega arith
+
+-- ---- the steps
+
+pub tidy-more : (a b : ℕ) (x : State) → a ≤ b → Tidy a x → Tidy b x
+tidy-more a b x l T =
+    record {
+      values-below = below-more a b (x .values) l (T .values-below);
+      marks-below = T .marks-below;
+      bits-below = T .bits-below;
+      f-below = T .f-below;
+      c-below = T .c-below;
+      g-below = T .g-below;
+      s-below = T .s-below;
+    }
+
+-- no trail matters
+pub tidy-trails : (v : ℕ) (vs ts us ms bs : List ℕ) (w : Walk) → Tidy v (state vs ts ms bs w) → Tidy v (state vs us ms bs w)
+tidy-trails v vs ts us ms bs w T =
+    record {
+      values-below = T .values-below;
+      marks-below = T .marks-below;
+      bits-below = T .bits-below;
+      f-below = T .f-below;
+      c-below = T .c-below;
+      g-below = T .g-below;
+      s-below = T .s-below;
+    }
+
+module _ (N : Subnetwork) (small : N .size ≤ 1024) (v : ℕ) (l : v ≤ 32768) (x : State) (T : Tidy v x) where
+  pub tidy1 : Tidy v (step1 paper N x)
+  unfolding step1
+  tidy1 =
+      let start : up (N .size) - 1 < 32768 = omega arith in
+      record {
+        values-below = T .values-below;
+        marks-below = T .marks-below;
+        bits-below = T .bits-below;
+        f-below = pick-below (noneMarked (x .marks) (up (N .size))) start (T .f-below);
+        c-below = pick-below (noneMarked (x .marks) (up (N .size))) start (T .c-below);
+        g-below =
+            look-below (N .place) (N .size) (x .values) _ (below-more v 32768 (x .values) l (T .values-below))
+            (pick-below (noneMarked (x .marks) (up (N .size))) start (T .f-below));
+        s-below = T .s-below;
+      }
+
+  pub tidy2 : Tidy v (step2 paper N x)
+  unfolding step2
+  tidy2 =
+      record {
+        values-below = T .values-below;
+        marks-below = T .marks-below;
+        bits-below = T .bits-below;
+        f-below = T .f-below;
+        c-below = T .c-below;
+        g-below = T .g-below;
+        s-below =
+            seek-below (N .place) (N .size) (x .values) (other paper (up (N .size)) (x .g)) small
+            (other-below (up (N .size)) (x .g) (omega arith) (T .g-below));
+      }
+
+  pub tidy3 : Tidy v (step3 paper N x)
+  unfolding step3
+  tidy3 =
+      let k : ℕ = up (N .size) in
+      let p : ℕ = paper .dec k (x .s) .0 in
+      let ms : List ℕ = store (λ i. i) k p 1 (x .marks) in
+      let low : lowestUnmarked ms k < 32768 = omega (arith, bad-within (marked ms) k) in
+      let f : other paper k (x .s) < 32768 = other-below k (x .s) (omega arith) (T .s-below) in
+      let again : Bool = cond (eqb (other paper k (x .s)) (x .c)) (ltb (lowestUnmarked ms k) k) false in
+      record {
+        values-below = T .values-below;
+        marks-below = store-below 2 (λ i. i) k p 1 (x .marks) (T .marks-below) (omega arith);
+        bits-below =
+            store-below 2 (λ i. N .bit + i) (k - 1) p (digit (not (paper .dec k (x .s) .1))) (x .bits) (T .bits-below)
+            (digit-small (not (paper .dec k (x .s) .1)));
+        f-below = pick-below again low f;
+        c-below = pick-below again low (T .c-below);
+        g-below = T .g-below;
+        s-below = T .s-below;
+      }
+
+  pub tidy4 : Tidy v (step4 paper N x)
+  unfolding step4
+  tidy4 =
+      record {
+        values-below = act-below v _ (x .bits) (N .bit) (up (N .size) - 1) (x .values) (T .values-below);
+        marks-below = each-below 2 2 (λ i. i) (up (N .size)) (λ i mark. 0) (x .marks) (omega arith) (T .marks-below) (λ i m h. omega arith);
+        bits-below = T .bits-below;
+        f-below = T .f-below;
+        c-below = T .c-below;
+        g-below = T .g-below;
+        s-below = T .s-below;
+      }
+
+  pub tidy5 : Tidy v (step5 paper N x)
+  unfolding step5
+  tidy5 =
+      record {
+        values-below =
+            each-below v v (N .place) (N .size) _ (x .values) (omega arith) (T .values-below)
+            (λ i u h. omega (arith, pair-within (up (N .size)) u));
+        marks-below = T .marks-below;
+        bits-below = T .bits-below;
+        f-below = T .f-below;
+        c-below = T .c-below;
+        g-below = T .g-below;
+        s-below = T .s-below;
+      }
+
+pub tidy-rounds : (N : Subnetwork) → N .size ≤ 1024 → (v : ℕ) → v ≤ 32768 → (i : ℕ) (x : State) → Tidy v x → Tidy v (roundsOf paper N i x)
+unfolding roundsOf
+tidy-rounds N h v l zero x T = T
+tidy-rounds N h v l (suc i) x T =
+    let a : State = roundsOf paper N i x in
+    let b : State = step1 paper N a in
+    tidy3 N h v l (step2 paper N b) (tidy2 N h v l b (tidy1 N h v l a (tidy-rounds N h v l i x T)))
+
+pub tidy-input : (N : Subnetwork) → N .size ≤ 1024 → (v : ℕ) → v ≤ 32768 → (x : State) → Tidy v x → Tidy v (inputSteps paper N x)
+unfolding inputSteps
+tidy-input N h v l x T = go (ltb 2 (N .size))
+  where
+    go : (b : Bool) → Tidy v (cond b (step4 paper N (roundsOf paper N (up (N .size)) x)) x)
+    go true = tidy4 N h v l (roundsOf paper N (up (N .size)) x) (tidy-rounds N h v l (up (N .size)) x T)
+    go false = T
+
+-- a sweep that takes what is below a to what is below b, each place once
+pub each-lifts : (a b o m : ℕ) (F : ℕ → ℕ → ℕ) (xs : List ℕ) → a ≤ b → Below a xs → ((i x : ℕ) → x < a → F i x < b)
+    → Below b (each (λ i. o + i) m F xs)
+unfolding Below each
+each-lifts a b o zero F xs l h f z = omega (arith, h z)
+each-lifts a b o (suc m) F xs l h f z =
+    set-below b (each (λ i. o + i) m F xs) (o + m) _ (each-lifts a b o m F xs l h f)
+    (rw (each-ahead o m F xs m (omega arith)) (f m (getD xs (o + m) 0) (h (o + m)))) z
+
+pub tidy6 : (o m bit v : ℕ) (x : State) → m ≤ 1024 → Tidy v x → Tidy (v + up m) (step6 paper (within o m bit) x)
+unfolding step6
+tidy6 o m bit v x h T =
+    record {
+      values-below =
+          each-lifts v (v + up m) o m (λ i u. paper .enc (up m) (u, late i)) (switches (x .values)) (omega arith)
+          (act-below v (λ p. o + paper .enc (up m) p) bits (outputBit (within o m bit)) (m - up m) (x .values) (T .values-below))
+          (λ i u l. regained u (late i) l);
+      marks-below = T .marks-below;
+      bits-below =
+          each-below 2 2 (λ i. outputBit (within o m bit) + i) (m - up m) (λ i u. getD (x .trails) (o + i) 0 % 2) (x .bits) (omega arith)
+          (T .bits-below) (λ i u l. half (getD (x .trails) (o + i) 0));
+      f-below = T .f-below;
+      c-below = T .c-below;
+      g-below = T .g-below;
+      s-below = T .s-below;
+    }
+  where
+    bits : List ℕ
+    bits = each (λ i. outputBit (within o m bit) + i) (m - up m) (λ i u. getD (x .trails) (o + i) 0 % 2) (x .bits)
+
+    switches : List ℕ → List ℕ
+    switches xs = act (λ p. o + paper .enc (up m) p) bits (outputBit (within o m bit)) (m - up m) xs
+
+    late : ℕ → Bool
+    late i = eqb (getD (switches (x .trails)) (o + i) 0 % 2) 1
+
+    half : (t : ℕ) → t % 2 < 2
+    half t = omega arith
+
+    regained : (u : ℕ) (t : Bool) → u < v → paper .enc (up m) (u, t) < v + up m
+    regained u t l = omega (arith, enc-within (up m) u t)
+
+-- ---- a whole network: each of its bits stands for at most 2 that a value may grow by on the way
+
+-- the bottom network's places: o + (k + i) is the place i from o + k
+pub further : (o k : ℕ) → _≡_ {A = ℕ → ℕ} (λ i. o + k + i) (λ i. o + (k + i))
+further o k = fun-ext (λ i. add-assoc o k i)
+
+pub tidy-net : {m : ℕ} {net : Network} → Sized m net → (o bit : ℕ) (x : State) → m ≤ 1024 → bit + W m ≤ 9217
+    → Tidy (1024 + 2 * bit) x → Tidy (1024 + 2 * (bit + W m)) (setNet paper net (λ i. o + i) bit x)
+unfolding setNet
+tidy-net {m} (none h) o bit x s l T = tidy-more _ _ x (omega arith) T
+tidy-net {m} (some {top = top} {bottom = bottom} two t b) o bit x s l T =
+    let w : W m ≡ m - 1 + W (up m) + W (down m) = W-more m two in
+    let N : Subnetwork = within o m bit in
+    let entered : State = step5 paper N (inputSteps paper N x) in
+    let T₁ : Tidy (1024 + 2 * bit) entered =
+    tidy5 N s (1024 + 2 * bit) (omega arith) (inputSteps paper N x) (tidy-input N s (1024 + 2 * bit) (omega arith) x T)
+    in
+    let above : State = setNet paper top (λ i. o + i) (bit + (up m - 1)) entered in
+    let T₂ : Tidy (1024 + 2 * (bit + (up m - 1) + W (up m))) above =
+    tidy-net t o (bit + (up m - 1)) entered (omega arith) (omega arith) (tidy-more _ _ entered (omega arith) T₁)
+    in
+    let next : ℕ = bit + ((up m - 1) + switchCount top) in
+    let c : switchCount top ≡ W (up m) = count-of t in
+    let below : State = setNet paper bottom (λ i. o + (up m + i)) next above in
+    let T₃ : Tidy (1024 + 2 * (next + W (down m))) below =
+    subst (λ (p : ℕ → ℕ). Tidy (1024 + 2 * (next + W (down m))) (setNet paper bottom p next above)) (further o (up m))
+    (tidy-net b (o + up m) next above (omega arith) (omega arith) (tidy-more _ _ above (omega arith) T₂))
+    in
+    tidy-more _ _ (step6 paper N below) (omega arith) (tidy6 o m bit (1024 + 2 * (next + W (down m))) below s T₃)

@@ -1,0 +1,128 @@
+-- The table as it starts: the order copied, the bits cleared, trails and marks empty.
+-- Assumes nothing.
+use mathlib.Core.Path.{_≡_, refl, sym, ap, _∙_, fun-ext}
+use mathlib.Core.List.{List, [], _∷_}
+use Prim.Native.Nat.{ℕ, zero, suc, _+_, _-_, _*_, _≤_, _<_}
+use native.Mathlib.Nat.{zero-add}
+use native.Mathlib.Omega.{arith}
+use lib.ListN.{length, getD, take, replicate, length-replicate}
+use lib.Seq.{ext-getD}
+use Rattle.answers.specs.Buffers.{overlay}
+use Rattle.counts.specs.Counts.{up, W, E}
+use Rattle.network.specs.Wiring.{paper}
+use Rattle.network.specs.Network.{network}
+use Rattle.network.specs.Log.{words}
+use Rattle.network.proofs.Paper.{paper-lawful}
+use Rattle.network.proofs.Shape.{sized}
+use Rattle.steps.specs.Sweeps.{each}
+use Rattle.steps.specs.State.{State, start}
+use Rattle.steps.specs.Sequence.{entriesOf, setEntries}
+use Rattle.steps.specs.Fold.{setNet}
+use Rattle.steps.proofs.Places.{Unlike}
+use Rattle.steps.proofs.Running.{run-is-fold}
+use Rattle.steps.proofs.Sweeps.{length-each, each-at}
+use Rattle.sweeps.specs.Tables.{Below}
+use Rattle.control.specs.declared.Walk.{Walk}
+use Rattle.control.specs.Inner.{state, Went, Room, Tidy, Lengthens, Sets}
+use Rattle.control.proofs.Entries.{length-entries}
+
+unlike-self : (n : ℕ) → Unlike n (λ i. i)
+unfolding Unlike
+unlike-self n i j li lj e = e
+
+-- a sweep over a whole list puts F i at place i, whatever stood there
+filled : (F : ℕ → ℕ) (xs ys : List ℕ) → length xs ≡ length ys → ((i : ℕ) → i < length ys → F i ≡ getD ys i 0)
+    → each (λ i. i) (length ys) (λ i x. F i) xs ≡ ys
+filled F xs ys e f =
+    ext-getD 0 (each (λ i. i) (length ys) (λ i x. F i) xs) ys (len ∙ e)
+    (λ i l.
+    let h : i < length ys = omega (arith, len) in
+    each-at (λ j. j) (λ j x. F j) xs (length ys) (unlike-self (length ys)) (λ j lj. omega arith) i h ∙ f i h)
+  where
+    len : length (each (λ i. i) (length ys) (λ i x. F i) xs) ≡ length xs
+    len = length-each (λ i. i) (λ i x. F i) xs (length ys)
+
+pub copied : (xs ys : List ℕ) → length xs ≡ length ys → each (λ i. i) (length ys) (λ i x. getD ys i 0) xs ≡ ys
+copied xs ys e = filled (λ i. getD ys i 0) xs ys e (λ i l. refl)
+
+pub zero-at : (n i : ℕ) → _≡_ {A = ℕ} (getD (replicate {A = ℕ} n 0) i 0) 0
+zero-at zero i = refl
+zero-at (suc n) zero = refl
+zero-at (suc n) (suc i) = zero-at n i
+
+pub cleared : (xs : List ℕ) (n : ℕ) → length xs ≡ n → each (λ i. i) (length xs) (λ i x. 0) xs ≡ replicate {A = ℕ} n 0
+cleared xs n e =
+    let r : length (replicate {A = ℕ} n 0) ≡ n = length-replicate {A = ℕ} n 0 in
+    ap (λ k. each (λ i. i) k (λ i x. 0) xs) (e ∙ sym r) ∙ filled (λ i. 0) xs (replicate {A = ℕ} n 0) (e ∙ sym r) (λ i l. sym (zero-at n i))
+
+pub took : (n k : ℕ) → k ≤ n → take k (replicate {A = ℕ} n 0) ≡ replicate {A = ℕ} k 0
+took n zero h = refl
+took zero (suc k) h = absurd (omega arith)
+took (suc n) (suc k) h = ap (λ (l : List ℕ). 0 ∷ l) (took n k (omega arith))
+
+pub zeros-below : (b n : ℕ) → 0 < b → Below b (replicate {A = ℕ} n 0)
+unfolding Below
+zeros-below b n h i = rw (zero-at n i) h
+
+pub zeros-lengthen : (n : ℕ) → n ≤ 1024 → Lengthens 0 n (replicate {A = ℕ} n 0)
+unfolding Lengthens
+zeros-lengthen n h i l = rw (zero-at n (0 + i)) (omega arith)
+
+abbrev pub still : Walk
+still = record { f = 0; c = 0; g = 0; s = 0; e = 0; b = 0 }
+
+pub tidy-start : (order : List ℕ) → Below 1024 order → Tidy 1024 (start order)
+tidy-start order h =
+    record {
+      values-below = h;
+      marks-below = zeros-below 2 (up (length order)) (omega arith);
+      bits-below = zeros-below 2 (W (length order)) (omega arith);
+      f-below = omega arith;
+      c-below = omega arith;
+      g-below = omega arith;
+      s-below = omega arith;
+    }
+
+-- the tables that the code prepares are the start
+pub start-is : (order vs ts ms bs : List ℕ) → vs ≡ order → ts ≡ replicate (length order) 0 → ms ≡ replicate (up (length order)) 0
+    → bs ≡ replicate (W (length order)) 0 → state vs ts ms bs still ≡ start order
+start-is order vs ts ms bs e₁ e₂ e₃ e₄ = rw (e₁, e₂, e₃, e₄)
+
+-- the setter from the start: what the recursion left is what running the entries leaves
+pub sets-whole : (order vs ts ms bs bits log bits′ log′ : List ℕ) (vs′ ts′ ms′ : List ℕ) (r : Walk)
+    → vs ≡ order → ts ≡ replicate {A = ℕ} (length order) 0 → ms ≡ replicate {A = ℕ} (up (length order)) 0
+    → bs ≡ each (λ i. i) (length bits) (λ i x. 0) bits → length bits ≡ W (length order)
+    → Went (entriesOf paper (network (length order)) (λ i. 0 + i)) (W (length order)) still r log log′
+    → state vs′ ts′ ms′ bits′ r ≡ setNet paper (network (length order)) (λ i. 0 + i) 0 (state vs ts ms bs still)
+    → Sets order log (r .e) bits′ log′
+unfolding setEntries
+sets-whole order vs ts ms bs bits log bits′ log′ vs′ ts′ ms′ r e₁ e₂ e₃ e₄ l G S =
+    let n : ℕ = length order in
+    let q : _≡_ {A = ℕ → ℕ} (λ i. 0 + i) (λ i. i) = fun-ext (λ i. zero-add i) in
+    let s : state vs ts ms bs still ≡ start order = start-is order vs ts ms bs e₁ e₂ e₃ (e₄ ∙ cleared bits (W n) l) in
+    record {
+      count = omega (arith, G .count, length-entries (sized n) (λ i. 0 + i));
+      bits-are =
+          ap (λ (x : State). x .bits) (S ∙ ap (λ (p : ℕ → ℕ). setNet paper (network n) p 0 (state vs ts ms bs still)) q)
+          ∙ ap (λ (x : State). setNet paper (network n) (λ i. i) 0 x .bits) s
+          ∙ ap (λ (x : State). x .bits) (sym (run-is-fold paper paper-lawful n (start order)));
+      log-is = G .log ∙ ap (λ (p : ℕ → ℕ). overlay log 0 (words (entriesOf paper (network n) p))) q;
+    }
+
+-- and the room that it starts with
+pub room-start : (order vs ts ms bs log : List ℕ) → length order ≤ 1024 → length vs ≡ length order → ts ≡ replicate {A = ℕ} (length order) 0
+    → ms ≡ replicate {A = ℕ} (up (length order)) 0 → length bs ≡ W (length order) → length bs ≤ 9217 → 3 * E (length order) ≤ length log
+    → Room 0 (length order) still vs ts ms bs log
+room-start order vs ts ms bs log h lv et em lb few ll =
+    let n : ℕ = length order in
+    let lt : length ts ≡ n = ap length et ∙ length-replicate {A = ℕ} n 0 in
+    let lm : length ms ≡ up n = ap length em ∙ length-replicate {A = ℕ} (up n) 0 in
+    record {
+      places = omega arith;
+      values-room = omega arith;
+      trails-room = omega arith;
+      marks-room = omega arith;
+      bits-room = omega arith;
+      few = omega arith;
+      log-room = omega arith;
+    }

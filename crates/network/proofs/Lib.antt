@@ -1,0 +1,12 @@
+pub mod Cases
+pub mod Shape
+pub mod Paper
+pub mod Blocks
+pub mod Places
+pub mod Layer
+pub mod Where
+pub mod Undo
+pub mod Order
+pub mod Moved
+pub mod Run
+pub mod RunBack

@@ -1,0 +1,5 @@
+pub mod Wiring
+pub mod Network
+pub mod Move
+pub mod Blocks
+pub mod Log

@@ -1,0 +1,1 @@
+// The network: definitions and theorems only. What runs stands in `apply` and `control`.

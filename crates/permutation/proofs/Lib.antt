@@ -1,0 +1,10 @@
+pub mod Sweeps
+pub mod Permutations
+pub mod Pigeons
+pub mod Tables
+pub mod Inverses
+pub mod Laws
+pub mod Records
+pub mod Fillings
+pub mod Replies
+pub mod Accepted

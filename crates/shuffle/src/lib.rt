@@ -1,0 +1,69 @@
+// A permutation shuffled by words (01: draw).
+ghost use mathlib.Core.Path.{_≡_};
+ghost use mathlib.Core.List.{_++_};
+ghost use Prim.Native.Nat.{_≤_, _<_};
+ghost use lib.ListN.{length, drop};
+ghost use Rattle.answers.specs.Outcomes.{outcome};
+ghost use Rattle.permutation.specs.Permutations.{identity};
+ghost use Rattle.shuffle.specs.Shuffled.{partner, stepped, shuffleCall};
+
+fn wide(x: u32) -> usize
+    ensures { λ r. ⌜ r ≡ x ⌝ }
+{
+    x as usize
+}
+
+// 0 to n - 1 over the front of out.
+fn number(n: usize, out: &mut [u16])
+    requires { ⌜ (n ≤ length (now out)) × (n ≤ 1024) ⌝ }
+    ensures { λ _. ⌜ now (out .exit) ≡ identity n ++ drop n (now (out .entry)) ⌝ }
+{
+    let mut i = 0;
+    while i < n {
+        out[i] = i as u16;
+        i += 1;
+    }
+}
+
+// The place with which place i of n is exchanged.
+fn partner_of(n: usize, i: usize, word: u32) -> usize
+    requires { ⌜ (i < n) × (n ≤ 1024) ⌝ }
+    ensures { λ r. ⌜ (r ≡ partner n i word) × (r < n) ⌝ }
+{
+    i + wide(word) % (n - i)
+}
+
+// The exchanges of all the words.
+fn exchange(words: &[u32], out: &mut [u16])
+    requires { ⌜ (length (now words) ≤ length (now out)) × (length (now words) ≤ 1024) ⌝ }
+    ensures { λ _. ⌜ now (out .exit) ≡ stepped (length (now (words .entry))) (now (words .entry)) (now (out .entry)) ⌝ }
+{
+    let n = words.len();
+    let mut i = 0;
+    while i < n {
+        let j = partner_of(n, i, words[i]);
+        let a = out[i];
+        let b = out[j];
+        out[i] = b;
+        out[j] = a;
+        i += 1;
+    }
+}
+
+// The call keeps no log: its places may follow the words.
+pub fn shuffle(n: usize, words: &[u32], out: &mut [u16]) -> answers::Answer
+    ensures { λ r. ⌜ outcome r (now (out .exit)) ≡ shuffleCall n (now (words .entry)) (now (out .entry)) ⌝ }
+{
+    if 1024 < n {
+        return answers::refuse(1, 0);
+    }
+    if words.len() != n {
+        return answers::refuse(16, 0);
+    }
+    if out.len() < n {
+        return answers::refuse(13, 0);
+    }
+    number(n, out);
+    exchange(words, out);
+    answers::accept(n)
+}

@@ -1,0 +1,52 @@
+-- Cases a to g of 01, and an order that pins the lowest pair, by running their logs.
+-- Assumes nothing.
+use mathlib.Core.Path.{_≡_, refl}
+use mathlib.Core.List.{List, [], _∷_, map}
+use Prim.Native.Nat.{ℕ}
+use lib.ListN.{length}
+use Rattle.answers.specs.Questions.{firstBadFrom}
+use Rattle.counts.specs.Counts.{W, byHalves}
+use Rattle.network.specs.Wiring.{paper}
+use Rattle.network.specs.Network.{network, networkIn, switchCount}
+use Rattle.network.specs.Move.{switch}
+use Rattle.network.specs.Log.{words}
+use Rattle.steps.specs.Sweeps.{look, seek, store, each, act}
+use Rattle.steps.specs.Steps.{step1, step2, step3, step4, step5, step6}
+use Rattle.steps.specs.Sequence.{rounds, inputEntries, entriesOf, setEntries}
+use Rattle.steps.specs.Run.{subnetworks, runEntry, runEntries, runSet, settingOf}
+
+-- an order, and its setting
+record Case : Type 0 where
+  order : List ℕ
+  setting : List ℕ
+
+given : List ℕ → List ℕ → Case
+given order setting = record { order = order; setting = setting }
+
+cases : List Case
+cases =
+    given [] []
+    ∷ given (0 ∷ []) []
+    ∷ given (1 ∷ 0 ∷ []) (1 ∷ [])
+    ∷ given (1 ∷ 2 ∷ 0 ∷ []) (0 ∷ 1 ∷ 1 ∷ [])
+    ∷ given (1 ∷ 3 ∷ 0 ∷ 2 ∷ []) (1 ∷ 0 ∷ 1 ∷ 0 ∷ 1 ∷ [])
+    ∷ given (1 ∷ 2 ∷ 3 ∷ 4 ∷ 0 ∷ []) (0 ∷ 0 ∷ 0 ∷ 1 ∷ 1 ∷ 1 ∷ 1 ∷ 0 ∷ [])
+    ∷ given (6 ∷ 2 ∷ 3 ∷ 7 ∷ 5 ∷ 1 ∷ 8 ∷ 0 ∷ 4 ∷ [])
+    (0 ∷ 0 ∷ 0 ∷ 1 ∷ 0 ∷ 0 ∷ 0 ∷ 1 ∷ 1 ∷ 1 ∷ 1 ∷ 0 ∷ 1 ∷ 0 ∷ 1 ∷ 0 ∷ 1 ∷ 1 ∷ 1 ∷ 0 ∷ 0 ∷ [])
+    ∷ given (0 ∷ 3 ∷ 2 ∷ 1 ∷ 4 ∷ []) (0 ∷ 1 ∷ 0 ∷ 0 ∷ 0 ∷ 1 ∷ 0 ∷ 1 ∷ [])
+    ∷ []
+
+-- the setting that the log of an order leaves
+ran : List ℕ → List ℕ
+ran order = settingOf paper order (setEntries paper (length order))
+
+cases-run : map (λ (c : Case). ran (c .order)) cases ≡ map (λ (c : Case). c .setting) cases
+unfolding firstBadFrom W byHalves network networkIn switchCount switch look seek store each act step1 step2 step3 step4 step5 step6 rounds inputEntries entriesOf setEntries subnetworks runEntry runEntries runSet given cases ran
+cases-run = refl
+
+-- the log of three places: three words for each of the eleven entries
+log-of-three : words (setEntries paper 3)
+    ≡ 1 ∷ 0 ∷ 3 ∷ 2 ∷ 0 ∷ 3 ∷ 3 ∷ 0 ∷ 3 ∷ 1 ∷ 0 ∷ 3 ∷ 2 ∷ 0 ∷ 3 ∷ 3 ∷ 0 ∷ 3
+    ∷ 4 ∷ 0 ∷ 3 ∷ 5 ∷ 0 ∷ 3 ∷ 5 ∷ 0 ∷ 2 ∷ 6 ∷ 0 ∷ 2 ∷ 6 ∷ 0 ∷ 3 ∷ []
+unfolding words network networkIn rounds inputEntries entriesOf setEntries
+log-of-three = refl

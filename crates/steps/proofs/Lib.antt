@@ -1,0 +1,6 @@
+pub mod Cases
+pub mod Places
+pub mod Lookup
+pub mod Running
+pub mod Lengths
+pub mod Sweeps

@@ -1,0 +1,6 @@
+pub mod Sweeps
+pub mod State
+pub mod Steps
+pub mod Sequence
+pub mod Run
+pub mod Fold

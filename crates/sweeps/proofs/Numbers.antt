@@ -1,0 +1,123 @@
+-- Selecting by arithmetic: the carry of a sum as a test, masks, and the paper's pairs with no branch.
+-- Assumes nothing.
+use mathlib.Core.Path.{_≡_, refl, sym, ap, _∙_}
+use mathlib.Core.Bool.{Bool, true, false, not, cond}
+use Prim.Native.Nat.{ℕ, zero, suc, _+_, _-_, _*_, _/_, _%_, _^_, _≤_, _<_}
+use native.Mathlib.Nat.{mod-eq-of-lt}
+use native.Mathlib.Omega.{arith}
+use native.Mathlib.Decide.{ℕ-discrete, decLt}
+use mir.Val.{boolByte}
+use lib.Bits.{bitAnd, bitOr, and-mask, and-zero-r, or-zero-r, or-zero-l}
+use lib.Dec.{ltb, eqb}
+use borrow.Author.Tests.{lt-ltb, le-ltb, eq-eqb, ne-eqb}
+use Rattle.network.specs.Wiring.{paper}
+use Rattle.steps.specs.Steps.{other, digit}
+
+pub digit-small : (b : Bool) → digit b < 2
+digit-small true = omega arith
+digit-small false = omega arith
+
+pub digit-byte : (b : Bool) → boolByte b ≡ digit b
+digit-byte true = refl
+digit-byte false = refl
+
+-- a bit says what it was made of
+pub digit-is : (b : Bool) → eqb (digit b) 1 ≡ b
+digit-is true = refl
+digit-is false = refl
+
+pub carry : (a b : ℕ) → a < 32768 → b < 32768 → (a + 32768 - b) / 32768 ≡ digit (not (ltb a b))
+carry a b ha hb = go (decLt a b)
+  where
+    go : Dec (a < b) → (a + 32768 - b) / 32768 ≡ digit (not (ltb a b))
+    go (yes l) = rw (lt-ltb a b l) (omega arith)
+    go (no l) = rw (le-ltb a b (omega arith)) (omega arith)
+
+-- neither is below the other
+pub both : (a b : ℕ) → digit (not (ltb a b)) * digit (not (ltb b a)) ≡ digit (eqb a b)
+both a b = go (ℕ-discrete a b) (decLt a b)
+  where
+    go : Dec (a ≡ b) → Dec (a < b) → digit (not (ltb a b)) * digit (not (ltb b a)) ≡ digit (eqb a b)
+    go (yes e) l = rw (eq-eqb a b e, le-ltb a b (omega arith), le-ltb b a (omega arith))
+    go (no e) (yes l) = rw (ne-eqb a b e, lt-ltb a b l, le-ltb b a (omega arith))
+    go (no e) (no l) = rw (ne-eqb a b e, lt-ltb b a (omega arith), le-ltb a b (omega arith))
+
+pub product-small : (a b : Bool) → digit a * digit b < 2
+product-small true b = omega (arith, digit-small b)
+product-small false b = omega arith
+
+-- ---- masks of k bits
+
+module _ (k M : ℕ) (all : M ≡ 2 ^ k - 1) where
+  -- a number under a mask of all ones or all zeros
+  pub masked : (s a : ℕ) → s < 2 → a < 2 ^ k → bitAnd a (s * M) ≡ cond (eqb s 1) a 0
+  masked zero a h l = let u : 0 * M ≡ 0 = omega arith in rw u (and-zero-r a)
+  masked (suc zero) a h l = let u : 1 * M ≡ M = omega arith in rw (u, all) (and-mask a k ∙ mod-eq-of-lt l)
+  masked (suc (suc s)) a h l = absurd (omega arith)
+
+  pub blend : (s a b : ℕ) → s < 2 → a < 2 ^ k → b < 2 ^ k
+      → bitOr (bitAnd a (s * M)) (bitAnd b (M - s * M)) ≡ cond (eqb s 1) a b
+  blend zero a b h l r =
+      let u : M - 0 * M ≡ 1 * M = omega arith in
+      rw (u, masked 0 a (omega arith) l, masked 1 b (omega arith) r) (or-zero-l b)
+  blend (suc zero) a b h l r =
+      let u : M - 1 * M ≡ 0 * M = omega arith in
+      rw (u, masked 1 a (omega arith) l, masked 0 b (omega arith) r) (or-zero-r a)
+  blend (suc (suc s)) a b h l r = absurd (omega arith)
+
+pub mask-fits : (s M : ℕ) → s < 2 → s * M ≤ M
+mask-fits zero M h = omega arith
+mask-fits (suc zero) M h = omega arith
+mask-fits (suc (suc s)) M h = absurd (omega arith)
+
+-- ---- the paper's pairs
+
+-- of the place p of k pairs: the sums of the code fit, and what they give
+pub record Pairs (k p : ℕ) : Type 0 where
+  pub fits : k * digit (not (ltb p k)) ≤ k
+  pub within : k * digit (not (ltb p k)) ≤ p
+  pub twice-fits : 2 * k * digit (not (ltb p k)) ≤ 2 * k
+  pub twice-within : 2 * k * digit (not (ltb p k)) ≤ p + k
+  pub pair : p - k * digit (not (ltb p k)) ≡ paper .dec k p .0
+  pub across : p + k - 2 * k * digit (not (ltb p k)) ≡ other paper k p
+  pub side : digit (not (ltb p k)) ≡ digit (paper .dec k p .1)
+
+pub pairs : (k p : ℕ) → Pairs k p
+pairs k p = go (decLt p k)
+  where
+    go : Dec (p < k) → Pairs k p
+    go (yes l) =
+        let q = lt-ltb p k l in
+        let z : k * 0 ≡ 0 = omega arith in
+        let z₂ : 2 * k * 0 ≡ 0 = omega arith in
+        record {
+          fits = rw q (omega arith);
+          within = rw q (omega arith);
+          twice-fits = rw q (omega arith);
+          twice-within = rw q (omega arith);
+          pair = rw (q, z) (omega arith);
+          across = rw (q, z₂) (omega arith);
+          side = rw q;
+        }
+    go (no l) =
+        let q = le-ltb p k (omega arith) in
+        let o : k * 1 ≡ k = omega arith in
+        let o₂ : 2 * k * 1 ≡ 2 * k = omega arith in
+        record {
+          fits = rw q (omega arith);
+          within = rw q (omega arith);
+          twice-fits = rw q (omega arith);
+          twice-within = rw q (omega arith);
+          pair = rw (q, o) (omega arith);
+          across = rw (q, o₂) (omega arith);
+          side = rw q;
+        }
+
+-- the number of a pair's switch, and that the sum fits
+pub switched : (k p : ℕ)
+    → (k * digit (not (ltb p (k - 1))) ≤ k) × (p + k * digit (not (ltb p (k - 1))) ≡ cond (ltb p (k - 1)) p (p + k))
+switched k p = go (ltb p (k - 1))
+  where
+    go : (b : Bool) → (k * digit (not b) ≤ k) × (p + k * digit (not b) ≡ cond b p (p + k))
+    go true = (omega arith, omega arith)
+    go false = (omega arith, omega arith)
