@@ -80,7 +80,23 @@ fn push(
     put(size, at, m);
 }
 
-// The task on top of the stack: done, or taken apart into output switches, bottom and top, the top uppermost.
+// The parts of a network at `at` of the stack: output switches, bottom and top, the top uppermost.
+fn take_apart(
+    kind: &mut [usize],
+    start: &mut [usize],
+    size: &mut [usize],
+    at: usize,
+    o: usize,
+    k: usize,
+    h: usize,
+) -> usize {
+    put(kind, at, 1);
+    push(kind, start, size, add(at, 1), add(o, k), h);
+    push(kind, start, size, add(at, 2), o, k);
+    add(at, 3)
+}
+
+// The task on top of the stack: done, or taken apart once its input switches are listed.
 fn task(
     p: Point,
     kind: &mut [usize],
@@ -89,37 +105,25 @@ fn task(
     lower: &mut [usize],
     upper: &mut [usize],
 ) -> Point {
-    let waiting = p.waiting;
-    let listed = p.count;
-    if waiting == 0 {
-        return Point {
-            waiting,
-            count: listed,
-        };
+    if p.waiting == 0 {
+        return p;
     }
-    let at = waiting - 1;
+    let at = p.waiting - 1;
     let o = get(start, at);
     let m = get(size, at);
     let h = m / 2;
     let k = m - h;
     if get(kind, at) == 1 {
-        let count = add_layer(lower, upper, listed, o, k, h);
+        let count = add_layer(lower, upper, p.count, o, k, h);
         return Point { waiting: at, count };
     }
-    if m < 2 {
-        return Point {
-            waiting: at,
-            count: listed,
-        };
+    if h == 0 {
+        let count = p.count;
+        return Point { waiting: at, count };
     }
-    let count = add_layer(lower, upper, listed, o, k, k - 1);
-    put(kind, at, 1);
-    push(kind, start, size, add(at, 1), add(o, k), h);
-    push(kind, start, size, add(at, 2), o, k);
-    Point {
-        waiting: add(at, 3),
-        count,
-    }
+    let count = add_layer(lower, upper, p.count, o, k, k - 1);
+    let waiting = take_apart(kind, start, size, at, o, k, h);
+    Point { waiting, count }
 }
 
 // Does all tasks: a network of 1,024 places makes 3,070.

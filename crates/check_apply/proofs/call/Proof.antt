@@ -5,80 +5,58 @@ use mathlib.Core.Path.{sym}
 use lib.Seq.{length-take-le}
 use Rattle.check_apply.proofs.call.Statement.{statement}
 use Rattle.check_apply.proofs.call.Tie as tie
-use Rattle.check_apply.proofs.call.Reads as reads
-use Rattle.check_apply.proofs.call.Lts as lts
-use Rattle.apply.proofs.apply.Reads as apply-reads
-use Rattle.apply.proofs.apply_inverse.Reads as apply-inverse-reads
 
--- src/main.rt:26:47
 slice-relend-prefix-apply-inverse : tie.Need-slice-relend-prefix-apply-inverse
 slice-relend-prefix-apply-inverse c = search needs
 
--- src/main.rt:26:47
 slice-aggregate-apply-inverse : tie.Need-slice-aggregate-apply-inverse
 slice-aggregate-apply-inverse c = sym (length-take-le _ _ (search needs))
 
--- src/main.rt:26:69
 slice-aggregate-apply-inverse-2 : tie.Need-slice-aggregate-apply-inverse-2
 slice-aggregate-apply-inverse-2 c = sym (length-take-le _ _ (search needs))
 
--- src/main.rt:26:81
 slice-relend-prefix-apply-inverse-2 : tie.Need-slice-relend-prefix-apply-inverse-2
 slice-relend-prefix-apply-inverse-2 c = search needs
 
--- src/main.rt:26:81
 slice-aggregate-apply-inverse-3 : tie.Need-slice-aggregate-apply-inverse-3
 slice-aggregate-apply-inverse-3 c = sym (length-take-le _ _ (search needs))
 
--- src/main.rt:26:9
 apply-inverse-requires : tie.Need-apply-inverse-requires
 apply-inverse-requires c κs = search needs
 
--- src/main.rt:26:9
 same-length : tie.Need-same-length
 same-length c = search needs
 
--- src/main.rt:26:9
 same-length-2 : tie.Need-same-length-2
 same-length-2 c = search needs
 
--- src/main.rt:26:9
 returns : tie.Need-returns
 returns c = search needs
 
--- src/main.rt:28:28
 slice-relend-prefix-apply : tie.Need-slice-relend-prefix-apply
 slice-relend-prefix-apply c = search needs
 
--- src/main.rt:28:28
 slice-aggregate-apply : tie.Need-slice-aggregate-apply
 slice-aggregate-apply c = sym (length-take-le _ _ (search needs))
 
--- src/main.rt:28:50
 slice-aggregate-apply-2 : tie.Need-slice-aggregate-apply-2
 slice-aggregate-apply-2 c = sym (length-take-le _ _ (search needs))
 
--- src/main.rt:28:62
 slice-relend-prefix-apply-2 : tie.Need-slice-relend-prefix-apply-2
 slice-relend-prefix-apply-2 c = search needs
 
--- src/main.rt:28:62
 slice-aggregate-apply-3 : tie.Need-slice-aggregate-apply-3
 slice-aggregate-apply-3 c = sym (length-take-le _ _ (search needs))
 
--- src/main.rt:28:5
 apply-requires : tie.Need-apply-requires
 apply-requires c κs = search needs
 
--- src/main.rt:12:1
 same-length-3 : tie.Need-same-length-3
 same-length-3 c = search needs
 
--- src/main.rt:12:1
 same-length-4 : tie.Need-same-length-4
 same-length-4 c = search needs
 
--- src/main.rt:12:1
 returns-2 : tie.Need-returns-2
 returns-2 c = search needs
 

@@ -6,9 +6,6 @@ use Prim.Native.Nat.{_+_, _-_, _≤_}
 use lib.ListN.{length}
 use Rattle.check_apply.proofs.check_sizes.Statement.{statement}
 use Rattle.check_apply.proofs.check_sizes.Tie as tie
-use Rattle.check_apply.proofs.check_sizes.Reads as reads
-use Rattle.check_apply.proofs.check_sizes.Lts as lts
-use Rattle.check_apply.proofs.check_widths.Reads as check-widths-reads
 
 abbrev Inv-loop : tie.InvT-loop
 Inv-loop from to back t₀ n₀ t n = (n ≤ to + 1) × (to ≤ 1024)
@@ -16,39 +13,30 @@ Inv-loop from to back t₀ n₀ t n = (n ≤ to + 1) × (to ≤ 1024)
 abbrev μ-loop : tie.MeasureT-loop
 μ-loop from to back t₀ n₀ t n = to + 1 - n
 
--- src/main.rt:103:5
 loop-holds : tie.Need-loop-holds Inv-loop μ-loop
 loop-holds c = search needs
 
--- src/main.rt:104:33
 cast-check-widths : tie.Need-cast-check-widths Inv-loop μ-loop
 cast-check-widths c = search needs
 
--- src/main.rt:104:32
 mul-check-widths : tie.Need-mul-check-widths Inv-loop μ-loop
 mul-check-widths c = search needs
 
--- src/main.rt:104:32
 add-check-widths : tie.Need-add-check-widths Inv-loop μ-loop
 add-check-widths c = search needs
 
--- src/main.rt:104:9
 check-widths-requires : tie.Need-check-widths-requires Inv-loop μ-loop
 check-widths-requires c κs = search needs
 
--- src/main.rt:105:9
 add-n : tie.Need-add-n Inv-loop μ-loop
 add-n c = search needs
 
--- src/main.rt:103:5
 loop-less : tie.Need-loop-less Inv-loop μ-loop
 loop-less c = search needs
 
--- src/main.rt:103:5
 loop-again : tie.Need-loop-again Inv-loop μ-loop
 loop-again c = search needs
 
--- src/main.rt:98:1
 returns : tie.Need-returns Inv-loop μ-loop
 returns c = search needs
 

@@ -6,10 +6,6 @@ use Prim.Native.Nat.{_+_, _-_, _≤_}
 use lib.ListN.{length}
 use Rattle.check_apply.proofs.plain.add_layer.Statement.{statement}
 use Rattle.check_apply.proofs.plain.add_layer.Tie as tie
-use Rattle.check_apply.proofs.plain.add_layer.Reads as reads
-use Rattle.check_apply.proofs.plain.add_layer.Lts as lts
-use Rattle.check_apply.proofs.plain.add.Reads as add-reads
-use Rattle.check_apply.proofs.plain.put.Reads as put-reads
 
 abbrev Inv-loop : tie.InvT-loop
 Inv-loop lower₀ upper₀ count o k c i₀ lower upper i = (i ≤ c) × ((length lower ≡ length lower₀) × (length upper ≡ length upper₀))
@@ -17,63 +13,48 @@ Inv-loop lower₀ upper₀ count o k c i₀ lower upper i = (i ≤ c) × ((lengt
 abbrev μ-loop : tie.MeasureT-loop
 μ-loop lower₀ upper₀ count o k c i₀ lower upper i = c - i
 
--- src/plain.rt:54:5
 loop-holds : tie.Need-loop-holds Inv-loop μ-loop
 loop-holds c = search needs
 
--- src/plain.rt:55:20
 add-requires : tie.Need-add-requires Inv-loop μ-loop
 add-requires c κs = search needs
 
--- src/plain.rt:55:35
 add-requires-2 : tie.Need-add-requires-2 Inv-loop μ-loop
 add-requires-2 c κs = search needs
 
--- src/plain.rt:55:9
 put-requires : tie.Need-put-requires Inv-loop μ-loop
 put-requires c κs = search needs
 
--- src/plain.rt:56:20
 add-requires-3 : tie.Need-add-requires-3 Inv-loop μ-loop
 add-requires-3 c κs = search needs
 
--- src/plain.rt:56:39
 add-requires-4 : tie.Need-add-requires-4 Inv-loop μ-loop
 add-requires-4 c κs = search needs
 
--- src/plain.rt:56:35
 add-requires-5 : tie.Need-add-requires-5 Inv-loop μ-loop
 add-requires-5 c κs = search needs
 
--- src/plain.rt:56:9
 put-requires-2 : tie.Need-put-requires-2 Inv-loop μ-loop
 put-requires-2 c κs = search needs
 
--- src/plain.rt:57:9
 add-i : tie.Need-add-i Inv-loop μ-loop
 add-i c = search needs
 
--- src/plain.rt:54:5
 loop-less : tie.Need-loop-less Inv-loop μ-loop
 loop-less c = search needs
 
--- src/plain.rt:54:5
 loop-again : tie.Need-loop-again Inv-loop μ-loop
 loop-again c = search needs
 
--- src/plain.rt:59:5
 add-requires-6 : tie.Need-add-requires-6 Inv-loop μ-loop
 add-requires-6 c κs = search needs
 
--- src/plain.rt:52:1
 same-length : tie.Need-same-length Inv-loop μ-loop
 same-length c = search needs
 
--- src/plain.rt:52:1
 same-length-2 : tie.Need-same-length-2 Inv-loop μ-loop
 same-length-2 c = search needs
 
--- src/plain.rt:52:1
 returns : tie.Need-returns Inv-loop μ-loop
 returns c = search needs
 

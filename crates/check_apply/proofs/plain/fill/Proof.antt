@@ -6,10 +6,6 @@ use Prim.Native.Nat.{_+_, _-_, _≤_}
 use lib.ListN.{length}
 use Rattle.check_apply.proofs.plain.fill.Statement.{statement}
 use Rattle.check_apply.proofs.plain.fill.Tie as tie
-use Rattle.check_apply.proofs.plain.fill.Reads as reads
-use Rattle.check_apply.proofs.plain.fill.Lts as lts
-use Rattle.check_apply.proofs.plain.byte.Reads as byte-reads
-use Rattle.check_apply.proofs.plain.random.Reads as random-reads
 
 abbrev Inv-loop : tie.InvT-loop
 Inv-loop bytes₀ seed limit x₀ i₀ bytes x i = (i ≤ length bytes₀) × (length bytes ≡ length bytes₀)
@@ -17,43 +13,33 @@ Inv-loop bytes₀ seed limit x₀ i₀ bytes x i = (i ≤ length bytes₀) × (l
 abbrev μ-loop : tie.MeasureT-loop
 μ-loop bytes₀ seed limit x₀ i₀ bytes x i = length bytes₀ - i
 
--- src/plain.rt:201:9
 random-requires : tie.Need-random-requires Inv-loop μ-loop
 random-requires c κs = search needs
 
--- src/plain.rt:203:5
 loop-holds : tie.Need-loop-holds Inv-loop μ-loop
 loop-holds c = search needs
 
--- src/plain.rt:204:20
 byte-requires : tie.Need-byte-requires Inv-loop μ-loop
 byte-requires c κs = search needs
 
--- src/plain.rt:204:9
 slice-write-bytes : tie.Need-slice-write-bytes Inv-loop μ-loop
 slice-write-bytes c = search needs
 
--- src/plain.rt:205:9
 random-requires-2 : tie.Need-random-requires-2 Inv-loop μ-loop
 random-requires-2 c κs = search needs
 
--- src/plain.rt:206:9
 add-i : tie.Need-add-i Inv-loop μ-loop
 add-i c = search needs
 
--- src/plain.rt:203:5
 loop-less : tie.Need-loop-less Inv-loop μ-loop
 loop-less c = search needs
 
--- src/plain.rt:203:5
 loop-again : tie.Need-loop-again Inv-loop μ-loop
 loop-again c = search needs
 
--- src/plain.rt:200:1
 same-length : tie.Need-same-length Inv-loop μ-loop
 same-length c = search needs
 
--- src/plain.rt:200:1
 returns : tie.Need-returns Inv-loop μ-loop
 returns c = search needs
 

@@ -6,11 +6,6 @@ use Prim.Native.Nat.{_+_, _-_, _≤_}
 use lib.ListN.{length}
 use Rattle.check_apply.proofs.plain.swap_blocks.Statement.{statement}
 use Rattle.check_apply.proofs.plain.swap_blocks.Tie as tie
-use Rattle.check_apply.proofs.plain.swap_blocks.Reads as reads
-use Rattle.check_apply.proofs.plain.swap_blocks.Lts as lts
-use Rattle.check_apply.proofs.plain.add.Reads as add-reads
-use Rattle.check_apply.proofs.plain.swap.Reads as swap-reads
-use Rattle.check_apply.proofs.plain.times.Reads as times-reads
 
 abbrev Inv-loop : tie.InvT-loop
 Inv-loop blocks₀ width p q a b j₀ blocks j = (j ≤ width) × (length blocks ≡ length blocks₀)
@@ -18,47 +13,36 @@ Inv-loop blocks₀ width p q a b j₀ blocks j = (j ≤ width) × (length blocks
 abbrev μ-loop : tie.MeasureT-loop
 μ-loop blocks₀ width p q a b j₀ blocks j = width - j
 
--- src/plain.rt:142:9
 times-requires : tie.Need-times-requires Inv-loop μ-loop
 times-requires c κs = search needs
 
--- src/plain.rt:143:9
 times-requires-2 : tie.Need-times-requires-2 Inv-loop μ-loop
 times-requires-2 c κs = search needs
 
--- src/plain.rt:145:5
 loop-holds : tie.Need-loop-holds Inv-loop μ-loop
 loop-holds c = search needs
 
--- src/plain.rt:146:22
 add-requires : tie.Need-add-requires Inv-loop μ-loop
 add-requires c κs = search needs
 
--- src/plain.rt:146:33
 add-requires-2 : tie.Need-add-requires-2 Inv-loop μ-loop
 add-requires-2 c κs = search needs
 
--- src/plain.rt:146:9
 swap-requires : tie.Need-swap-requires Inv-loop μ-loop
 swap-requires c κs = search needs
 
--- src/plain.rt:147:9
 add-j : tie.Need-add-j Inv-loop μ-loop
 add-j c = search needs
 
--- src/plain.rt:145:5
 loop-less : tie.Need-loop-less Inv-loop μ-loop
 loop-less c = search needs
 
--- src/plain.rt:145:5
 loop-again : tie.Need-loop-again Inv-loop μ-loop
 loop-again c = search needs
 
--- src/plain.rt:141:1
 same-length : tie.Need-same-length Inv-loop μ-loop
 same-length c = search needs
 
--- src/plain.rt:141:1
 returns : tie.Need-returns Inv-loop μ-loop
 returns c = search needs
 

@@ -6,9 +6,6 @@ use Prim.Native.Nat.{_+_, _-_, _≤_}
 use lib.ListN.{length}
 use Rattle.check_apply.proofs.plain.tasks.Statement.{statement}
 use Rattle.check_apply.proofs.plain.tasks.Tie as tie
-use Rattle.check_apply.proofs.plain.tasks.Reads as reads
-use Rattle.check_apply.proofs.plain.tasks.Lts as lts
-use Rattle.check_apply.proofs.plain.task.Reads as task-reads
 
 abbrev Inv-loop : tie.InvT-loop
 Inv-loop kind₀ start₀ size₀ lower₀ upper₀ p₀ turn₀ kind start size lower upper p turn = (turn ≤ 4096) × ((length kind ≡ length kind₀) × ((length start ≡ length start₀) × ((length size ≡ length size₀) × ((length lower ≡ length lower₀) × (length upper ≡ length upper₀)))))
@@ -16,47 +13,36 @@ Inv-loop kind₀ start₀ size₀ lower₀ upper₀ p₀ turn₀ kind start size
 abbrev μ-loop : tie.MeasureT-loop
 μ-loop kind₀ start₀ size₀ lower₀ upper₀ p₀ turn₀ kind start size lower upper p turn = 4096 - turn
 
--- src/plain.rt:124:5
 loop-holds : tie.Need-loop-holds Inv-loop μ-loop
 loop-holds c = search needs
 
--- src/plain.rt:125:9
 task-requires : tie.Need-task-requires Inv-loop μ-loop
 task-requires c κs = search needs
 
--- src/plain.rt:126:9
 add-turn : tie.Need-add-turn Inv-loop μ-loop
 add-turn c = search needs
 
--- src/plain.rt:124:5
 loop-less : tie.Need-loop-less Inv-loop μ-loop
 loop-less c = search needs
 
--- src/plain.rt:124:5
 loop-again : tie.Need-loop-again Inv-loop μ-loop
 loop-again c = search needs
 
--- src/plain.rt:112:1
 same-length : tie.Need-same-length Inv-loop μ-loop
 same-length c = search needs
 
--- src/plain.rt:112:1
 same-length-2 : tie.Need-same-length-2 Inv-loop μ-loop
 same-length-2 c = search needs
 
--- src/plain.rt:112:1
 same-length-3 : tie.Need-same-length-3 Inv-loop μ-loop
 same-length-3 c = search needs
 
--- src/plain.rt:112:1
 same-length-4 : tie.Need-same-length-4 Inv-loop μ-loop
 same-length-4 c = search needs
 
--- src/plain.rt:112:1
 same-length-5 : tie.Need-same-length-5 Inv-loop μ-loop
 same-length-5 c = search needs
 
--- src/plain.rt:112:1
 returns : tie.Need-returns Inv-loop μ-loop
 returns c = search needs
 

@@ -6,24 +6,18 @@ use native.Mathlib.Nat.{mul-le-mul}
 use native.Mathlib.Omega.{arith}
 use Rattle.check_apply.proofs.plain.times.Statement.{statement}
 use Rattle.check_apply.proofs.plain.times.Tie as tie
-use Rattle.check_apply.proofs.plain.times.Reads as reads
-use Rattle.check_apply.proofs.plain.times.Lts as lts
 
--- src/plain.rt:35:9
 returns : tie.Need-returns
 returns c = search needs
 
--- src/plain.rt:38:9
 returns-2 : tie.Need-returns-2
 returns-2 c = search needs
 
--- src/plain.rt:40:5
 mul-result : tie.Need-mul-result
 mul-result c =
     let q : c .before .before .args .n * c .before .before .args .width ≤ 1024 * 256 = mul-le-mul (c .before .if1 .left) (c .if2 .left) in
     omega arith
 
--- src/plain.rt:31:1
 returns-3 : tie.Need-returns-3
 returns-3 c = mul-le-mul (c .before .if1 .left) (c .if2 .left)
 
