@@ -102,13 +102,11 @@ whole t n =
     let bottom = n .run2 .kept .0 ∙ ap length (lent t m) ∙ rest t l in
     rw length-append (omega (arith, topped t m, bottom, sz t (l .before .before .before)))
 
--- src/lib.rt:63:9
 run-returns : (t : ℕ) → run-lts.Need-returns (layer-reads.Asked, layer-reads.Learnt, run-below t, run.Post) (run-at t) run.Post
 run-returns t c =
     let s = c .before .before .before .before in
     nothing (s .args .width) (s .args .m) (s .args .o) (s .args .e) (s .args .bits .now) (s .args .blocks .now) (s .args .log .now) (c .if1 .taken)
 
--- src/lib.rt:66:9
 run-layer-requires : (t : ℕ) → run-lts.Need-layer-requires (layer-reads.Asked, layer-reads.Learnt, run-below t, run.Post) (run-at t) run.Post
 run-layer-requires t c κs =
     let s = c .before .before .before .before .before .before .before in
@@ -116,45 +114,36 @@ run-layer-requires t c κs =
     let one = W-two (a .m) (c .before .before .if2 .taken) in
     (lend (s .pre .1) (a .m) (a .o) (a .e) 1 (a .blocks .now) (a .log .now) (omega arith) (sym (s .pre .1 .whole)) (omega arith) refl, omega arith)
 
--- src/lib.rt:67:16
 run-add-result : (t : ℕ) → run-lts.Need-add-result (layer-reads.Asked, layer-reads.Learnt, run-below t, run.Post) (run-at t) run.Post
 run-add-result t c =
     let l = c .before .before .before .before in
     let s = l .before .before .before .before .before .before .before .before in
     omega (arith, s .pre .1 .enough, W-two (s .args .m) (l .before .before .before .if2 .taken), s .good .1 .1 .1 .1 .0 .0)
 
--- src/lib.rt:67:9
 run-same-length : (t : ℕ) → run-lts.Need-same-length (layer-reads.Asked, layer-reads.Learnt, run-below t, run.Post) (run-at t) run.Post
 run-same-length t c = c .before .before .before .before .layer .kept .0
 
--- src/lib.rt:67:9
 run-same-length-2 : (t : ℕ) → run-lts.Need-same-length-2 (layer-reads.Asked, layer-reads.Learnt, run-below t, run.Post) (run-at t) run.Post
 run-same-length-2 t c = c .before .before .before .before .layer .kept .1 .1 .1 .1 .1 .1 .0
 
--- src/lib.rt:67:9
 run-returns-2 : (t : ℕ) → run-lts.Need-returns-2 (layer-reads.Asked, layer-reads.Learnt, run-below t, run.Post) (run-at t) run.Post
 run-returns-2 t c =
     let l = c .before .before .before .before in
     let a = l .before .before .before .before .before .before .before .before .args in
     pair (a .width) (a .o) (a .e) (a .bits .now) (a .m) (l .before .before .before .if2 .taken) (l .layer .ensures)
 
--- src/lib.rt:69:14
 run-add-k : (t : ℕ) → run-lts.Need-add-k (layer-reads.Asked, layer-reads.Learnt, run-below t, run.Post) (run-at t) run.Post
 run-add-k t c = omega (arith, sz t c)
 
--- src/lib.rt:70:13
 run-sub-h : (t : ℕ) → run-lts.Need-sub-h (layer-reads.Asked, layer-reads.Learnt, run-below t, run.Post) (run-at t) run.Post
 run-sub-h t c = omega (arith, sz t c)
 
--- src/lib.rt:71:15
 run-mul-cut : (t : ℕ) → run-lts.Need-mul-cut (layer-reads.Asked, layer-reads.Learnt, run-below t, run.Post) (run-at t) run.Post
 run-mul-cut t c = omega (arith, sz t c)
 
--- src/lib.rt:72:18
 run-sub-inputs : (t : ℕ) → run-lts.Need-sub-inputs (layer-reads.Asked, layer-reads.Learnt, run-below t, run.Post) (run-at t) run.Post
 run-sub-inputs t c = omega (arith, sz t c)
 
--- src/lib.rt:73:5
 run-layer-requires-2 : (t : ℕ) → run-lts.Need-layer-requires-2 (layer-reads.Asked, layer-reads.Learnt, run-below t, run.Post) (run-at t) run.Post
 run-layer-requires-2 t c κs =
     let e = c .before .before in
@@ -163,21 +152,17 @@ run-layer-requires-2 t c κs =
     let z = sz t e in
     (lend (s .pre .1) (a .m) (a .o) (a .e) (up (a .m) - 1) (a .blocks .now) (a .log .now) (omega arith) (sym (s .pre .1 .whole)) (omega arith) refl, omega arith)
 
--- src/lib.rt:74:19
 run-slice-relend-prefix-run : (t : ℕ) → run-lts.Need-slice-relend-prefix-run (layer-reads.Asked, layer-reads.Learnt, run-below t, run.Post) (run-at t) run.Post
 run-slice-relend-prefix-run t c =
     let l = c .before .before .before .before in
     omega (arith, sz t (l .before .before .before), l .layer2 .kept .0)
 
--- src/lib.rt:74:19
 run-slice-aggregate-run : (t : ℕ) → run-lts.Need-slice-aggregate-run (layer-reads.Asked, layer-reads.Learnt, run-below t, run.Post) (run-at t) run.Post
 run-slice-aggregate-run t c = sym (cut t (c .before .before .before .before .before))
 
--- src/lib.rt:74:63
 run-add-run : (t : ℕ) → run-lts.Need-add-run (layer-reads.Asked, layer-reads.Learnt, run-below t, run.Post) (run-at t) run.Post
 run-add-run t c = omega (arith, sz t (c .before .before .before .before .before .before .before .before .before))
 
--- src/lib.rt:74:9
 run-run-requires : (t : ℕ) → run-lts.Need-run-requires (layer-reads.Asked, layer-reads.Learnt, run-below t, run.Post) (run-at t) run.Post
 run-run-requires t c κs =
     let l = c .before .before .before .before .before .before in
@@ -186,24 +171,19 @@ run-run-requires t c κs =
     let a = s .args in
     (omega arith, lend (s .pre .1) (up (a .m)) (a .o) (a .e + (up (a .m) - 1)) (W (up (a .m))) (take (up (a .m) * a .width) (l .layer2 .last .0)) (l .layer2 .last .1 .1 .1 .1 .1 .1 .0) (omega arith) (cut t l) (omega arith) (log1 t l))
 
--- src/lib.rt:75:22
 run-sub-run : (t : ℕ) → run-lts.Need-sub-run (layer-reads.Asked, layer-reads.Learnt, run-below t, run.Post) (run-at t) run.Post
 run-sub-run t c = from t (c .before .before .before .before)
 
--- src/lib.rt:75:22
 run-part-run-start : (t : ℕ) → run-lts.Need-part-run-start (layer-reads.Asked, layer-reads.Learnt, run-below t, run.Post) (run-at t) run.Post
 run-part-run-start t c = from t (c .before .before .before .before)
 
--- src/lib.rt:75:22
 run-part-run-end : (t : ℕ) → run-lts.Need-part-run-end (layer-reads.Asked, layer-reads.Learnt, run-below t, run.Post) (run-at t) run.Post
 run-part-run-end t c = le-refl _
 
--- src/lib.rt:75:52
 run-add-run-2 : (t : ℕ) → run-lts.Need-add-run-2 (layer-reads.Asked, layer-reads.Learnt, run-below t, run.Post) (run-at t) run.Post
 run-add-run-2 t c =
     omega (arith, sz t (c .before .before .before .before .before .before .before .before .before .before .before .before .before .before .before))
 
--- src/lib.rt:75:9
 run-run-requires-2 : (t : ℕ) → run-lts.Need-run-requires-2 (layer-reads.Asked, layer-reads.Learnt, run-below t, run.Post) (run-at t) run.Post
 run-run-requires-2 t c κs =
     let m = c .before .before .before .before .before .before in
@@ -215,7 +195,6 @@ run-run-requires-2 t c κs =
     let b = m .run .last .0 ++ drop (up (a .m) * a .width) (l .layer2 .last .0) in
     (omega (arith, s .pre .0), lend (s .pre .1) (down (a .m)) (a .o + up (a .m)) (m .run .result) (W (down (a .m))) (take (length b - up (a .m) * a .width) (drop (up (a .m) * a .width) b)) (m .run .last .1 .1 .1 .1 .1 .0) (omega arith) (ap length (lent t m) ∙ rest t l) (omega (arith, z, r)) (log2 t m))
 
--- src/lib.rt:76:5
 run-layer-requires-3 : (t : ℕ) → run-lts.Need-layer-requires-3 (layer-reads.Asked, layer-reads.Learnt, run-below t, run.Post) (run-at t) run.Post
 run-layer-requires-3 t c κs =
     let n = c .before .before .before .before .before .before in
@@ -229,7 +208,6 @@ run-layer-requires-3 t c κs =
     let b = m .run .last .0 ++ drop (up (a .m) * a .width) (l .layer2 .last .0) in
     (lend (s .pre .1) (a .m) (a .o) (n .run2 .result) (down (a .m)) (putMid (up (a .m) * a .width) (length b - up (a .m) * a .width) b (n .run2 .last .0)) (n .run2 .last .1 .1 .1 .1 .1 .0) (omega arith) (ap length (back t n) ∙ whole t n ∙ sym (s .pre .1 .whole)) (omega (arith, z, r, r2)) (log3 t n), omega arith)
 
--- src/lib.rt:77:5
 run-add-result-2 : (t : ℕ) → run-lts.Need-add-result-2 (layer-reads.Asked, layer-reads.Learnt, run-below t, run.Post) (run-at t) run.Post
 run-add-result-2 t c =
     let n = c .before .before .before .before .before .before .before .before .before .before .before in
@@ -240,19 +218,16 @@ run-add-result-2 t c =
     let r2 : n .run2 .result ≡ m .run .result + W (down (a .m)) = n .run2 .ensures .0 in
     omega (arith, sz t (l .before .before .before), r, r2)
 
--- src/lib.rt:50:1
 run-same-length-3 : (t : ℕ) → run-lts.Need-same-length-3 (layer-reads.Asked, layer-reads.Learnt, run-below t, run.Post) (run-at t) run.Post
 run-same-length-3 t c =
     let n = c .before .before .before .before .before .before .before .before .before .before .before in
     c .before .before .before .before .layer3 .kept .0 ∙ ap length (back t n) ∙ whole t n
 
--- src/lib.rt:50:1
 run-same-length-4 : (t : ℕ) → run-lts.Need-same-length-4 (layer-reads.Asked, layer-reads.Learnt, run-below t, run.Post) (run-at t) run.Post
 run-same-length-4 t c =
     let n = c .before .before .before .before .before .before .before .before .before .before .before in
     c .before .before .before .before .layer3 .kept .1 .1 .1 .1 .1 .1 .0 ∙ log3 t n
 
--- src/lib.rt:50:1
 run-returns-3 : (t : ℕ) → run-lts.Need-returns-3 (layer-reads.Asked, layer-reads.Learnt, run-below t, run.Post) (run-at t) run.Post
 run-returns-3 t c =
     let f = c .before .before .before .before in

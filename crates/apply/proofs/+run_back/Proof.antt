@@ -96,13 +96,11 @@ whole t n =
     let bottom = m .run-back .kept .0 ∙ ap length (lent t l) ∙ rest t l in
     rw length-append (omega (arith, topped t n, bottom, sz t (l .before .before .before)))
 
--- src/lib.rt:94:9
 run-back-returns : (t : ℕ) → run-back-lts.Need-returns (layer-back-reads.Asked, layer-back-reads.Learnt, run-back-below t, run-back.Post) (run-back-at t) run-back.Post
 run-back-returns t c =
     let s = c .before .before .before .before in
     nothing-back (s .args .width) (s .args .m) (s .args .o) (s .args .e) (s .args .bits .now) (s .args .blocks .now) (s .args .log .now) (c .if1 .taken)
 
--- src/lib.rt:97:9
 run-back-layer-back-requires : (t : ℕ) → run-back-lts.Need-layer-back-requires (layer-back-reads.Asked, layer-back-reads.Learnt, run-back-below t, run-back.Post) (run-back-at t) run-back.Post
 run-back-layer-back-requires t c κs =
     let s = c .before .before .before .before .before .before .before in
@@ -110,41 +108,33 @@ run-back-layer-back-requires t c κs =
     let one = W-two (a .m) (c .before .before .if2 .taken) in
     (lend (s .pre .1) (a .m) (a .o) (a .e) 1 (a .blocks .now) (a .log .now) (omega arith) (sym (s .pre .1 .whole)) (omega arith) refl, omega arith)
 
--- src/lib.rt:98:16
 run-back-add-result : (t : ℕ) → run-back-lts.Need-add-result (layer-back-reads.Asked, layer-back-reads.Learnt, run-back-below t, run-back.Post) (run-back-at t) run-back.Post
 run-back-add-result t c =
     let l = c .before .before .before .before in
     let s = l .before .before .before .before .before .before .before .before in
     omega (arith, s .pre .1 .enough, W-two (s .args .m) (l .before .before .before .if2 .taken), s .good .1 .1 .1 .1 .0 .0)
 
--- src/lib.rt:98:9
 run-back-same-length : (t : ℕ) → run-back-lts.Need-same-length (layer-back-reads.Asked, layer-back-reads.Learnt, run-back-below t, run-back.Post) (run-back-at t) run-back.Post
 run-back-same-length t c = c .before .before .before .before .layer-back .kept .0
 
--- src/lib.rt:98:9
 run-back-same-length-2 : (t : ℕ) → run-back-lts.Need-same-length-2 (layer-back-reads.Asked, layer-back-reads.Learnt, run-back-below t, run-back.Post) (run-back-at t) run-back.Post
 run-back-same-length-2 t c = c .before .before .before .before .layer-back .kept .1 .1 .1 .1 .1 .1 .0
 
--- src/lib.rt:98:9
 run-back-returns-2 : (t : ℕ) → run-back-lts.Need-returns-2 (layer-back-reads.Asked, layer-back-reads.Learnt, run-back-below t, run-back.Post) (run-back-at t) run-back.Post
 run-back-returns-2 t c =
     let l = c .before .before .before .before in
     let a = l .before .before .before .before .before .before .before .before .args in
     pair-back (a .width) (a .o) (a .e) (a .bits .now) (a .m) (l .before .before .before .if2 .taken) (l .layer-back .ensures)
 
--- src/lib.rt:100:14
 run-back-add-k : (t : ℕ) → run-back-lts.Need-add-k (layer-back-reads.Asked, layer-back-reads.Learnt, run-back-below t, run-back.Post) (run-back-at t) run-back.Post
 run-back-add-k t c = omega (arith, sz t c)
 
--- src/lib.rt:101:13
 run-back-sub-h : (t : ℕ) → run-back-lts.Need-sub-h (layer-back-reads.Asked, layer-back-reads.Learnt, run-back-below t, run-back.Post) (run-back-at t) run-back.Post
 run-back-sub-h t c = omega (arith, sz t c)
 
--- src/lib.rt:102:15
 run-back-mul-cut : (t : ℕ) → run-back-lts.Need-mul-cut (layer-back-reads.Asked, layer-back-reads.Learnt, run-back-below t, run-back.Post) (run-back-at t) run-back.Post
 run-back-mul-cut t c = omega (arith, sz t c)
 
--- src/lib.rt:103:5
 run-back-layer-back-requires-2 : (t : ℕ) → run-back-lts.Need-layer-back-requires-2 (layer-back-reads.Asked, layer-back-reads.Learnt, run-back-below t, run-back.Post) (run-back-at t) run-back.Post
 run-back-layer-back-requires-2 t c κs =
     let e = c .before .before in
@@ -153,27 +143,21 @@ run-back-layer-back-requires-2 t c κs =
     let z = sz t e in
     (lend (s .pre .1) (a .m) (a .o) (a .e) (down (a .m)) (a .blocks .now) (a .log .now) (omega arith) (sym (s .pre .1 .whole)) (omega arith) refl, omega arith)
 
--- src/lib.rt:104:27
 run-back-sub-run-back : (t : ℕ) → run-back-lts.Need-sub-run-back (layer-back-reads.Asked, layer-back-reads.Learnt, run-back-below t, run-back.Post) (run-back-at t) run-back.Post
 run-back-sub-run-back t c = cut t (c .before .before .before .before)
 
--- src/lib.rt:104:27
 run-back-part-run-back-start : (t : ℕ) → run-back-lts.Need-part-run-back-start (layer-back-reads.Asked, layer-back-reads.Learnt, run-back-below t, run-back.Post) (run-back-at t) run-back.Post
 run-back-part-run-back-start t c = cut t (c .before .before .before .before)
 
--- src/lib.rt:104:27
 run-back-part-run-back-end : (t : ℕ) → run-back-lts.Need-part-run-back-end (layer-back-reads.Asked, layer-back-reads.Learnt, run-back-below t, run-back.Post) (run-back-at t) run-back.Post
 run-back-part-run-back-end t c = le-refl _
 
--- src/lib.rt:104:57
 run-back-add-run-back : (t : ℕ) → run-back-lts.Need-add-run-back (layer-back-reads.Asked, layer-back-reads.Learnt, run-back-below t, run-back.Post) (run-back-at t) run-back.Post
 run-back-add-run-back t c = omega (arith, sz t (c .before .before .before .before .before .before .before .before))
 
--- src/lib.rt:104:75
 run-back-add-run-back-2 : (t : ℕ) → run-back-lts.Need-add-run-back-2 (layer-back-reads.Asked, layer-back-reads.Learnt, run-back-below t, run-back.Post) (run-back-at t) run-back.Post
 run-back-add-run-back-2 t c = omega (arith, sz t (c .before .before .before .before .before .before .before .before .before))
 
--- src/lib.rt:104:9
 run-back-run-back-requires : (t : ℕ) → run-back-lts.Need-run-back-requires (layer-back-reads.Asked, layer-back-reads.Learnt, run-back-below t, run-back.Post) (run-back-at t) run-back.Post
 run-back-run-back-requires t c κs =
     let l = c .before .before .before .before .before .before in
@@ -183,17 +167,14 @@ run-back-run-back-requires t c κs =
     let b = l .layer-back2 .last .0 in
     (omega (arith, s .pre .0), lend (s .pre .1) (down (a .m)) (a .o + up (a .m)) (a .e + down (a .m)) (W (down (a .m))) (take (length b - up (a .m) * a .width) (drop (up (a .m) * a .width) b)) (l .layer-back2 .last .1 .1 .1 .1 .1 .1 .0) (omega arith) (ap length (lent t l) ∙ rest t l) (omega arith) (log1 t l))
 
--- src/lib.rt:105:24
 run-back-slice-relend-prefix-run-back : (t : ℕ) → run-back-lts.Need-slice-relend-prefix-run-back (layer-back-reads.Asked, layer-back-reads.Learnt, run-back-below t, run-back.Post) (run-back-at t) run-back.Post
 run-back-slice-relend-prefix-run-back t c = parts t (c .before .before .before .before) .within
 
--- src/lib.rt:105:24
 run-back-slice-aggregate-run-back : (t : ℕ) → run-back-lts.Need-slice-aggregate-run-back (layer-back-reads.Asked, layer-back-reads.Learnt, run-back-below t, run-back.Post) (run-back-at t) run-back.Post
 run-back-slice-aggregate-run-back t c =
     let p = parts t (c .before .before .before .before .before) in
     sym (ap length (p .front) ∙ p .long)
 
--- src/lib.rt:105:9
 run-back-run-back-requires-2 : (t : ℕ) → run-back-lts.Need-run-back-requires-2 (layer-back-reads.Asked, layer-back-reads.Learnt, run-back-below t, run-back.Post) (run-back-at t) run-back.Post
 run-back-run-back-requires-2 t c κs =
     let m = c .before .before .before .before .before .before in
@@ -206,12 +187,10 @@ run-back-run-back-requires-2 t c κs =
     let r : m .run-back .result ≡ a .e + down (a .m) + W (down (a .m)) = m .run-back .ensures .0 in
     (omega (arith, s .pre .0), lend (s .pre .1) (up (a .m)) (a .o) (m .run-back .result) (W (up (a .m))) (take (up (a .m) * a .width) (putMid (up (a .m) * a .width) (length b - up (a .m) * a .width) b (m .run-back .last .0))) (m .run-back .last .1 .1 .1 .1 .1 .0) (omega arith) (ap length (p .front) ∙ p .long) (omega (arith, z, r)) (log2 t m))
 
--- src/lib.rt:106:18
 run-back-sub-inputs : (t : ℕ) → run-back-lts.Need-sub-inputs (layer-back-reads.Asked, layer-back-reads.Learnt, run-back-below t, run-back.Post) (run-back-at t) run-back.Post
 run-back-sub-inputs t c =
     omega (arith, sz t (c .before .before .before .before .before .before .before .before .before .before .before .before .before .before .before .before .before .before .before .before .before))
 
--- src/lib.rt:107:5
 run-back-layer-back-requires-3 : (t : ℕ) → run-back-lts.Need-layer-back-requires-3 (layer-back-reads.Asked, layer-back-reads.Learnt, run-back-below t, run-back.Post) (run-back-at t) run-back.Post
 run-back-layer-back-requires-3 t c κs =
     let n = c .before .before .before .before .before .before in
@@ -225,7 +204,6 @@ run-back-layer-back-requires-3 t c κs =
     let r2 : n .run-back2 .result ≡ m .run-back .result + W (up (a .m)) = n .run-back2 .ensures .0 in
     (lend (s .pre .1) (a .m) (a .o) (n .run-back2 .result) (up (a .m) - 1) (n .run-back2 .last .0 ++ drop (up (a .m) * a .width) (putMid (up (a .m) * a .width) (length b - up (a .m) * a .width) b (m .run-back .last .0))) (n .run-back2 .last .1 .1 .1 .1 .1 .0) (omega arith) (ap length (back t n) ∙ whole t n ∙ sym (s .pre .1 .whole)) (omega (arith, z, r, r2)) (log3 t n), omega arith)
 
--- src/lib.rt:108:5
 run-back-add-result-2 : (t : ℕ) → run-back-lts.Need-add-result-2 (layer-back-reads.Asked, layer-back-reads.Learnt, run-back-below t, run-back.Post) (run-back-at t) run-back.Post
 run-back-add-result-2 t c =
     let n = c .before .before .before .before .before .before .before .before .before .before .before in
@@ -236,19 +214,16 @@ run-back-add-result-2 t c =
     let r2 : n .run-back2 .result ≡ m .run-back .result + W (up (a .m)) = n .run-back2 .ensures .0 in
     omega (arith, sz t (l .before .before .before), r, r2)
 
--- src/lib.rt:81:1
 run-back-same-length-3 : (t : ℕ) → run-back-lts.Need-same-length-3 (layer-back-reads.Asked, layer-back-reads.Learnt, run-back-below t, run-back.Post) (run-back-at t) run-back.Post
 run-back-same-length-3 t c =
     let n = c .before .before .before .before .before .before .before .before .before .before .before in
     c .before .before .before .before .layer-back3 .kept .0 ∙ ap length (back t n) ∙ whole t n
 
--- src/lib.rt:81:1
 run-back-same-length-4 : (t : ℕ) → run-back-lts.Need-same-length-4 (layer-back-reads.Asked, layer-back-reads.Learnt, run-back-below t, run-back.Post) (run-back-at t) run-back.Post
 run-back-same-length-4 t c =
     let n = c .before .before .before .before .before .before .before .before .before .before .before in
     c .before .before .before .before .layer-back3 .kept .1 .1 .1 .1 .1 .1 .0 ∙ log3 t n
 
--- src/lib.rt:81:1
 run-back-returns-3 : (t : ℕ) → run-back-lts.Need-returns-3 (layer-back-reads.Asked, layer-back-reads.Learnt, run-back-below t, run-back.Post) (run-back-at t) run-back.Post
 run-back-returns-3 t c =
     let f = c .before .before .before .before in

@@ -3,42 +3,30 @@ use Rattle.apply.proofs.Whole.{lent, apply-refused, apply-settles}
 use borrow.Author.Needs.{needs}
 use Rattle.apply.proofs.apply.Statement.{statement}
 use Rattle.apply.proofs.apply.Tie as tie
-use Rattle.apply.proofs.apply.Reads as reads
-use Rattle.apply.proofs.apply.Lts as lts
-use Rattle.answers.proofs.accept.Reads as accept-reads
-use Rattle.apply.proofs.ask.Reads as ask-reads
-use Rattle.apply.proofs.run.Reads as run-reads
 
--- src/lib.rt:107:9
 ask-requires : tie.Need-ask-requires
 ask-requires c κs = search needs
 
--- src/lib.rt:109:9
 returns : tie.Need-returns
 returns c =
     let a = c .before .before .before .before .before .before .args in
     apply-refused (a .n) (a .width) (a .blocks .now) (a .bits .now) (a .log .now) (c .before .before .ask .ensures) (c .if1 .taken)
 
--- src/lib.rt:111:21
 run-requires : tie.Need-run-requires
 run-requires c κs =
     let i = c .before .before in
     let a = i .before .before .before .before .before .before .args in
     lent (a .n) (a .width) (a .blocks .now) (a .bits .now) (a .log .now) (i .before .before .ask .ensures) (i .if1 .left)
 
--- src/lib.rt:111:5
 accept-requires : tie.Need-accept-requires
 accept-requires c κs = search needs
 
--- src/lib.rt:104:1
 same-length : tie.Need-same-length
 same-length c = search needs
 
--- src/lib.rt:104:1
 same-length-2 : tie.Need-same-length-2
 same-length-2 c = search needs
 
--- src/lib.rt:104:1
 returns-2 : tie.Need-returns-2
 returns-2 c =
     let r = c .before .before .before .before .before in

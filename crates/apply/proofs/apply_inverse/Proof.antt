@@ -3,42 +3,30 @@ use Rattle.apply.proofs.Whole.{lent, inverse-refused, inverse-settles}
 use borrow.Author.Needs.{needs}
 use Rattle.apply.proofs.apply_inverse.Statement.{statement}
 use Rattle.apply.proofs.apply_inverse.Tie as tie
-use Rattle.apply.proofs.apply_inverse.Reads as reads
-use Rattle.apply.proofs.apply_inverse.Lts as lts
-use Rattle.answers.proofs.accept.Reads as accept-reads
-use Rattle.apply.proofs.ask.Reads as ask-reads
-use Rattle.apply.proofs.run_back.Reads as run-back-reads
 
--- src/lib.rt:118:9
 ask-requires : tie.Need-ask-requires
 ask-requires c κs = search needs
 
--- src/lib.rt:120:9
 returns : tie.Need-returns
 returns c =
     let a = c .before .before .before .before .before .before .args in
     inverse-refused (a .n) (a .width) (a .blocks .now) (a .bits .now) (a .log .now) (c .before .before .ask .ensures) (c .if1 .taken)
 
--- src/lib.rt:122:21
 run-back-requires : tie.Need-run-back-requires
 run-back-requires c κs =
     let i = c .before .before in
     let a = i .before .before .before .before .before .before .args in
     lent (a .n) (a .width) (a .blocks .now) (a .bits .now) (a .log .now) (i .before .before .ask .ensures) (i .if1 .left)
 
--- src/lib.rt:122:5
 accept-requires : tie.Need-accept-requires
 accept-requires c κs = search needs
 
--- src/lib.rt:115:1
 same-length : tie.Need-same-length
 same-length c = search needs
 
--- src/lib.rt:115:1
 same-length-2 : tie.Need-same-length-2
 same-length-2 c = search needs
 
--- src/lib.rt:115:1
 returns-2 : tie.Need-returns-2
 returns-2 c =
     let r = c .before .before .before .before .before in

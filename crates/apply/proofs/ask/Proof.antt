@@ -11,46 +11,33 @@ use Rattle.apply.proofs.Asked.{told, no1, no2-narrow, no2-wide, no3, no
 use borrow.Author.Needs.{needs}
 use Rattle.apply.proofs.ask.Statement.{statement}
 use Rattle.apply.proofs.ask.Tie as tie
-use Rattle.apply.proofs.ask.Reads as reads
-use Rattle.apply.proofs.ask.Lts as lts
-use Rattle.answers.proofs.accept.Reads as accept-reads
-use Rattle.answers.proofs.refuse.Reads as refuse-reads
-use Rattle.bits.proofs.first_bad_bit.Reads as first-bad-bit-reads
-use Rattle.counts.proofs.switches.Reads as switches-reads
 
--- src/lib.rt:23:9
 refuse-requires : tie.Need-refuse-requires
 refuse-requires c κs = search needs
 
--- src/lib.rt:23:9
 returns : tie.Need-returns
 returns c =
     let a = c .before .before .before .args in
-    c .refuse .ensures ∙ told (no1 (a .n) (a .width) (a .filled) (a .bits .now) (a .room) (c .before .if1 .taken))
+    c .refuse .ensures ∙ told (no1 (a .n) (a .width) (a .filled) (a .bits .now) (a .room) (omega arith))
 
--- src/lib.rt:26:9
 refuse-requires-2 : tie.Need-refuse-requires-2
 refuse-requires-2 c κs = search needs
 
--- src/lib.rt:26:9
 returns-2 : tie.Need-returns-2
 returns-2 c =
     let i = c .before .before in
     let a = i .before .before .args in
-    c .refuse2 .ensures ∙ told (no2-narrow (a .n) (a .width) (a .filled) (a .bits .now) (a .room) (i .if1 .left) (c .before .if2 .taken))
+    c .refuse2 .ensures ∙ told (no2-narrow (a .n) (a .width) (a .filled) (a .bits .now) (a .room) (i .if1 .left) (omega arith))
 
--- src/lib.rt:29:9
 refuse-requires-3 : tie.Need-refuse-requires-3
 refuse-requires-3 c κs = search needs
 
--- src/lib.rt:29:9
 returns-3 : tie.Need-returns-3
 returns-3 c =
     let i = c .before .before .before in
     let a = i .before .before .args in
-    c .refuse3 .ensures ∙ told (no2-wide (a .n) (a .width) (a .filled) (a .bits .now) (a .room) (i .if1 .left) (c .before .before .if2 .left) (c .before .if3 .taken))
+    c .refuse3 .ensures ∙ told (no2-wide (a .n) (a .width) (a .filled) (a .bits .now) (a .room) (i .if1 .left) (c .before .before .if2 .left) (omega arith))
 
--- src/lib.rt:31:18
 mul-if4 : tie.Need-mul-if4
 mul-if4 c =
     let i = c .before .before in
@@ -58,43 +45,36 @@ mul-if4 c =
     let q : a .n * a .width ≤ 1024 * 256 = mul-le-mul (i .if1 .left) (c .if3 .left) in
     omega arith
 
--- src/lib.rt:32:9
 refuse-requires-4 : tie.Need-refuse-requires-4
 refuse-requires-4 c κs = search needs
 
--- src/lib.rt:32:9
 returns-4 : tie.Need-returns-4
 returns-4 c =
     let i = c .before .before .before .before in
     let a = i .before .before .args in
-    c .refuse4 .ensures ∙ told (no3 (a .n) (a .width) (a .filled) (a .bits .now) (a .room) (i .if1 .left) (c .before .before .before .if2 .left) (c .before .before .if3 .left) (c .before .if4 .taken))
+    c .refuse4 .ensures ∙ told (no3 (a .n) (a .width) (a .filled) (a .bits .now) (a .room) (i .if1 .left) (c .before .before .before .if2 .left) (c .before .before .if3 .left) (λ e. omega arith))
 
--- src/lib.rt:34:9
 switches-requires : tie.Need-switches-requires
 switches-requires c κs = search needs
 
--- src/lib.rt:36:9
 refuse-requires-5 : tie.Need-refuse-requires-5
 refuse-requires-5 c κs = search needs
 
--- src/lib.rt:36:9
 returns-5 : tie.Need-returns-5
 returns-5 c =
     let s = c .before .before in
     let i = s .before .before .before .before in
     let a = i .before .before .args in
+    let due : s .switches .result ≡ W (a .n) = s .switches .ensures .0 in
     c .refuse5 .ensures
-    ∙ told (no4 (a .n) (a .width) (a .filled) (a .bits .now) (a .room) (i .if1 .left) (s .before .before .before .if2 .left) (s .before .before .if3 .left) (s .before .if4 .left) (λ e. c .before .if5 .taken (e ∙ sym (s .switches .ensures .0))))
+    ∙ told (no4 (a .n) (a .width) (a .filled) (a .bits .now) (a .room) (i .if1 .left) (s .before .before .before .if2 .left) (s .before .before .if3 .left) (s .before .if4 .left) (λ e. omega arith))
 
--- src/lib.rt:38:15
 mul-if6 : tie.Need-mul-if6
 mul-if6 c = search needs
 
--- src/lib.rt:39:9
 refuse-requires-6 : tie.Need-refuse-requires-6
 refuse-requires-6 c κs = search needs
 
--- src/lib.rt:39:9
 returns-6 : tie.Need-returns-6
 returns-6 c =
     let s = c .before .before .before in
@@ -104,15 +84,12 @@ returns-6 c =
     c .refuse6 .ensures
     ∙ told (no5 (a .n) (a .width) (a .filled) (a .bits .now) (a .room) (i .if1 .left) (s .before .before .before .if2 .left) (s .before .before .if3 .left) (s .before .if4 .left) (c .before .before .if5 .left ∙ due) (omega arith))
 
--- src/lib.rt:41:9
 first-bad-bit-requires : tie.Need-first-bad-bit-requires
 first-bad-bit-requires c κs = search needs
 
--- src/lib.rt:43:9
 refuse-requires-7 : tie.Need-refuse-requires-7
 refuse-requires-7 c κs = search needs
 
--- src/lib.rt:43:9
 returns-7 : tie.Need-returns-7
 returns-7 c =
     let s = c .before .before .before .before .before in
@@ -123,11 +100,9 @@ returns-7 c =
     c .refuse7 .ensures ∙ ap (refusal 7) bad
     ∙ told (no7 (a .n) (a .width) (a .filled) (a .bits .now) (a .room) (i .if1 .left) (s .before .before .before .if2 .left) (s .before .before .if3 .left) (s .before .if4 .left) (c .before .before .before .before .if5 .left ∙ due) (omega arith) (λ e. c .before .if7 .taken (bad ∙ e)))
 
--- src/lib.rt:45:5
 accept-requires : tie.Need-accept-requires
 accept-requires c κs = search needs
 
--- src/lib.rt:19:1
 returns-8 : tie.Need-returns-8
 returns-8 c =
     let s = c .before .before .before .before .before in

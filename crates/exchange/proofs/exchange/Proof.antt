@@ -9,10 +9,6 @@ use Rattle.exchange.specs.Bytes.{bytesSwitched}
 use Rattle.exchange.proofs.Bytes.{masked, byte-more}
 use Rattle.exchange.proofs.exchange.Statement.{statement}
 use Rattle.exchange.proofs.exchange.Tie as tie
-use Rattle.exchange.proofs.exchange.Reads as reads
-use Rattle.exchange.proofs.exchange.Lts as lts
-use Rattle.std.proofs.num.wrapping_add_u8.Reads as wrapping-add-u8-reads
-use Rattle.std.proofs.num.wrapping_sub_u8.Reads as wrapping-sub-u8-reads
 
 abbrev Inv-loop : tie.InvT-loop
 Inv-loop blocks₀ width a gap s mask j₀ blocks j = (j ≤ width) × ((length blocks ≡ length blocks₀) × (blocks ≡ bytesSwitched a gap s j blocks₀))
@@ -20,64 +16,49 @@ Inv-loop blocks₀ width a gap s mask j₀ blocks j = (j ≤ width) × ((length 
 abbrev μ-loop : tie.MeasureT-loop
 μ-loop blocks₀ width a gap s mask j₀ blocks j = width - j
 
--- src/lib.rt:22:16
 mul-mask : tie.Need-mul-mask Inv-loop μ-loop
 mul-mask c = omega arith
 
--- src/lib.rt:24:5
 loop-holds : tie.Need-loop-holds Inv-loop μ-loop
 unfolding bytesSwitched
 loop-holds c = (omega arith, (refl, refl))
 
--- src/lib.rt:25:17
 add-i : tie.Need-add-i Inv-loop μ-loop
 add-i c = omega arith
 
--- src/lib.rt:26:24
 add-y : tie.Need-add-y Inv-loop μ-loop
 add-y c = omega arith
 
--- src/lib.rt:26:17
 slice-read-y : tie.Need-slice-read-y Inv-loop μ-loop
 slice-read-y c = omega arith
 
--- src/lib.rt:27:17
 slice-read-x : tie.Need-slice-read-x Inv-loop μ-loop
 slice-read-x c = omega arith
 
--- src/lib.rt:28:17
 wrapping-sub-u8-requires : tie.Need-wrapping-sub-u8-requires Inv-loop μ-loop
 wrapping-sub-u8-requires c κs = search needs
 
--- src/lib.rt:29:27
 wrapping-sub-u8-requires-2 : tie.Need-wrapping-sub-u8-requires-2 Inv-loop μ-loop
 wrapping-sub-u8-requires-2 c κs = search needs
 
--- src/lib.rt:29:16
 add-blocks : tie.Need-add-blocks Inv-loop μ-loop
 add-blocks c = omega arith
 
--- src/lib.rt:29:9
 slice-write-blocks : tie.Need-slice-write-blocks Inv-loop μ-loop
 slice-write-blocks c = omega arith
 
--- src/lib.rt:30:21
 wrapping-add-u8-requires : tie.Need-wrapping-add-u8-requires Inv-loop μ-loop
 wrapping-add-u8-requires c κs = search needs
 
--- src/lib.rt:30:9
 slice-write-blocks-2 : tie.Need-slice-write-blocks-2 Inv-loop μ-loop
 slice-write-blocks-2 c = simp length-set (omega arith)
 
--- src/lib.rt:31:9
 add-j : tie.Need-add-j Inv-loop μ-loop
 add-j c = omega arith
 
--- src/lib.rt:24:5
 loop-less : tie.Need-loop-less Inv-loop μ-loop
 loop-less c = omega arith
 
--- src/lib.rt:24:5
 loop-again : tie.Need-loop-again Inv-loop μ-loop
 loop-again c =
     let l = c .before .before .before .before .before .before in
@@ -96,11 +77,9 @@ loop-again c =
       ),
     )
 
--- src/lib.rt:18:1
 same-length : tie.Need-same-length Inv-loop μ-loop
 same-length c = c .before .loop .inv .1 .0
 
--- src/lib.rt:18:1
 returns : tie.Need-returns Inv-loop μ-loop
 returns c =
     let l = c .before in

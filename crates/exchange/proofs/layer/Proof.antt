@@ -12,10 +12,6 @@ use Rattle.exchange.proofs.Blocks.{half-fits, within}
 use Rattle.exchange.proofs.Runs.{First, first-none, first-more}
 use Rattle.exchange.proofs.layer.Statement.{statement}
 use Rattle.exchange.proofs.layer.Tie as tie
-use Rattle.exchange.proofs.layer.Reads as reads
-use Rattle.exchange.proofs.layer.Lts as lts
-use Rattle.exchange.proofs.exchange.Reads as exchange-reads
-use Rattle.exchange.proofs.write_entry.Reads as write-entry-reads
 
 abbrev Inv-loop : tie.InvT-loop
 Inv-loop blocks₀ width m c o bits log₀ e k gap i₀ blocks log i =
@@ -24,37 +20,30 @@ Inv-loop blocks₀ width m c o bits log₀ e k gap i₀ blocks log i =
 abbrev μ-loop : tie.MeasureT-loop
 μ-loop blocks₀ width m c o bits log₀ e k gap i₀ blocks log i = c - i
 
--- src/lib.rt:62:14
 add-k : tie.Need-add-k Inv-loop μ-loop
 add-k c = omega arith
 
--- src/lib.rt:63:15
 mul-gap : tie.Need-mul-gap Inv-loop μ-loop
 mul-gap c =
     omega (arith, half-fits (c .before .before .before .args .width) (c .before .before .before .args .m))
 
--- src/lib.rt:65:5
 loop-holds : tie.Need-loop-holds Inv-loop μ-loop
 loop-holds c =
     let a = c .before .before .before .args in
     ((omega arith, (refl, refl)), first-none (a .width) (a .m) (a .o) (a .bits .now) (a .e) (a .blocks .now) (a .log .now))
 
--- src/lib.rt:66:33
 mul-exchange : tie.Need-mul-exchange Inv-loop μ-loop
 mul-exchange c =
     let l = c .before .before in
     let a = l .before .before .before .before .args in
     omega (arith, within (a .width) (a .m) (l .loop .i) (length (a .blocks .now)) (omega arith) (omega arith))
 
--- src/lib.rt:66:54
 add-exchange : tie.Need-add-exchange Inv-loop μ-loop
 add-exchange c = omega arith
 
--- src/lib.rt:66:49
 shared-slice-read-exchange : tie.Need-shared-slice-read-exchange Inv-loop μ-loop
 shared-slice-read-exchange c = omega arith
 
--- src/lib.rt:66:9
 exchange-requires : tie.Need-exchange-requires Inv-loop μ-loop
 unfolding Bits
 exchange-requires c κs =
@@ -64,35 +53,27 @@ exchange-requires c κs =
     let x = within (a .width) (a .m) (l .loop .i) (length (a .blocks .now)) (omega arith) (omega arith) in
     (s .pre .0 .settings (a .e + l .loop .i), x .gap, omega arith)
 
--- src/lib.rt:67:26
 add-write-entry : tie.Need-add-write-entry Inv-loop μ-loop
 add-write-entry c = omega arith
 
--- src/lib.rt:67:33
 add-write-entry-2 : tie.Need-add-write-entry-2 Inv-loop μ-loop
 add-write-entry-2 c = omega arith
 
--- src/lib.rt:67:45
 add-write-entry-3 : tie.Need-add-write-entry-3 Inv-loop μ-loop
 add-write-entry-3 c = omega arith
 
--- src/lib.rt:67:40
 add-write-entry-4 : tie.Need-add-write-entry-4 Inv-loop μ-loop
 add-write-entry-4 c = omega arith
 
--- src/lib.rt:67:9
 write-entry-requires : tie.Need-write-entry-requires Inv-loop μ-loop
 write-entry-requires c κs = omega arith
 
--- src/lib.rt:68:9
 add-i : tie.Need-add-i Inv-loop μ-loop
 add-i c = omega arith
 
--- src/lib.rt:65:5
 loop-less : tie.Need-loop-less Inv-loop μ-loop
 loop-less c = omega arith
 
--- src/lib.rt:65:5
 loop-again : tie.Need-loop-again Inv-loop μ-loop
 loop-again c =
     let w = c .before .before in
@@ -105,15 +86,12 @@ loop-again c =
       first-more (a .width) (a .m) (a .o) (a .bits .now) (a .e) (a .blocks .now) (a .log .now) i (l .loop .blocks) (l .loop .log) (x .exchange .last .0) (w .write-entry .last .0) (omega arith) (omega arith) (omega arith) (l .loop .inv .1) (x .exchange .ensures) (w .write-entry .ensures),
     )
 
--- src/lib.rt:49:1
 same-length : tie.Need-same-length Inv-loop μ-loop
 same-length c = c .before .loop .inv .0 .1 .0
 
--- src/lib.rt:49:1
 same-length-2 : tie.Need-same-length-2 Inv-loop μ-loop
 same-length-2 c = c .before .loop .inv .0 .1 .1
 
--- src/lib.rt:49:1
 returns : tie.Need-returns Inv-loop μ-loop
 returns c =
     let l = c .before in

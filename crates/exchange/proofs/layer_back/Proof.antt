@@ -13,10 +13,6 @@ use Rattle.exchange.proofs.Blocks.{half-fits, within, small, block-down
 use Rattle.exchange.proofs.Runs.{Leads, leads-all, leads-more, leads-none}
 use Rattle.exchange.proofs.layer_back.Statement.{statement}
 use Rattle.exchange.proofs.layer_back.Tie as tie
-use Rattle.exchange.proofs.layer_back.Reads as reads
-use Rattle.exchange.proofs.layer_back.Lts as lts
-use Rattle.exchange.proofs.exchange.Reads as exchange-reads
-use Rattle.exchange.proofs.write_entry.Reads as write-entry-reads
 
 abbrev Inv-loop : tie.InvT-loop
 Inv-loop blocks₀ width m c o bits log₀ e k gap first i₀ a₀ to₀ blocks log i a to =
@@ -25,40 +21,32 @@ Inv-loop blocks₀ width m c o bits log₀ e k gap first i₀ a₀ to₀ blocks 
 abbrev μ-loop : tie.MeasureT-loop
 μ-loop blocks₀ width m c o bits log₀ e k gap first i₀ a₀ to₀ blocks log i a to = i
 
--- src/lib.rt:89:14
 add-k : tie.Need-add-k Inv-loop μ-loop
 add-k c = omega arith
 
--- src/lib.rt:90:15
 mul-gap : tie.Need-mul-gap Inv-loop μ-loop
 mul-gap c =
     omega (arith, half-fits (c .before .before .before .args .width) (c .before .before .before .args .m))
 
--- src/lib.rt:91:31
 add-first : tie.Need-add-first Inv-loop μ-loop
 add-first c = omega arith
 
--- src/lib.rt:91:17
 sub-first : tie.Need-sub-first Inv-loop μ-loop
 sub-first c = omega arith
 
--- src/lib.rt:93:17
 mul-a : tie.Need-mul-a Inv-loop μ-loop
 mul-a c =
     let a = c .before .before .before .args in
     omega (arith, small (a .width) (a .c) (omega arith) (c .before .before .before .pre .0 .narrow))
 
--- src/lib.rt:95:5
 loop-holds : tie.Need-loop-holds Inv-loop μ-loop
 loop-holds c =
     let a = c .before .before .before .args in
     ((omega arith, (refl, (refl, (refl, refl)))), leads-all (a .width) (a .m) (a .o) (a .bits .now) (a .e) (a .blocks .now) (a .log .now) (a .c))
 
--- src/lib.rt:96:9
 sub-i : tie.Need-sub-i Inv-loop μ-loop
 sub-i c = omega arith
 
--- src/lib.rt:97:14
 add-a : tie.Need-add-a Inv-loop μ-loop
 add-a c =
     let l = c .before in
@@ -66,19 +54,15 @@ add-a c =
     let a = s .args in
     omega (arith, small (a .width) (l .loop .i) (omega arith) (s .pre .0 .narrow), l .loop .inv .0 .1 .1 .0)
 
--- src/lib.rt:97:14
 sub-a : tie.Need-sub-a Inv-loop μ-loop
 sub-a c = omega (arith, c .before .before .before .before .before .pre .0 .narrow)
 
--- src/lib.rt:98:46
 add-exchange : tie.Need-add-exchange Inv-loop μ-loop
 add-exchange c = omega arith
 
--- src/lib.rt:98:41
 shared-slice-read-exchange : tie.Need-shared-slice-read-exchange Inv-loop μ-loop
 shared-slice-read-exchange c = omega arith
 
--- src/lib.rt:98:9
 exchange-requires : tie.Need-exchange-requires Inv-loop μ-loop
 unfolding Bits
 exchange-requires c κs =
@@ -90,31 +74,24 @@ exchange-requires c κs =
     let x = within (a .width) (a .m) j (length (a .blocks .now)) (omega arith) (omega arith) in
     (s .pre .0 .settings (length (a .bits .now) - (a .e + a .c) + j), x .gap, omega (arith, at, x .ends))
 
--- src/lib.rt:99:30
 add-write-entry : tie.Need-add-write-entry Inv-loop μ-loop
 add-write-entry c = omega arith
 
--- src/lib.rt:99:42
 add-write-entry-2 : tie.Need-add-write-entry-2 Inv-loop μ-loop
 add-write-entry-2 c = omega arith
 
--- src/lib.rt:99:37
 add-write-entry-3 : tie.Need-add-write-entry-3 Inv-loop μ-loop
 add-write-entry-3 c = omega arith
 
--- src/lib.rt:99:9
 write-entry-requires : tie.Need-write-entry-requires Inv-loop μ-loop
 write-entry-requires c κs = omega arith
 
--- src/lib.rt:100:9
 add-to : tie.Need-add-to Inv-loop μ-loop
 add-to c = omega arith
 
--- src/lib.rt:95:5
 loop-less : tie.Need-loop-less Inv-loop μ-loop
 loop-less c = omega arith
 
--- src/lib.rt:95:5
 loop-again : tie.Need-loop-again Inv-loop μ-loop
 loop-again c =
     let w = c .before .before in
@@ -128,15 +105,12 @@ loop-again c =
       leads-more (a .width) (a .m) (a .o) (a .bits .now) (a .e) (a .blocks .now) (a .log .now) (a .c) (l .loop .i) j (l .loop .to) (l .loop .blocks) (l .loop .log) (x .exchange .last .0) (w .write-entry .last .0) (omega arith) (omega arith) (omega arith) (omega arith) (l .loop .inv .1) (rw at at (x .exchange .ensures)) (w .write-entry .ensures),
     )
 
--- src/lib.rt:76:1
 same-length : tie.Need-same-length Inv-loop μ-loop
 same-length c = c .before .loop .inv .0 .1 .1 .1 .0
 
--- src/lib.rt:76:1
 same-length-2 : tie.Need-same-length-2 Inv-loop μ-loop
 same-length-2 c = c .before .loop .inv .0 .1 .1 .1 .1
 
--- src/lib.rt:76:1
 returns : tie.Need-returns Inv-loop μ-loop
 returns c =
     let l = c .before in

@@ -1,0 +1,65 @@
+-- `check_apply::plain::swap_blocks` meets its contract.
+-- Assumes nothing.
+use borrow.Author.Needs.{needs}
+use mathlib.Core.Path.{_≡_}
+use Prim.Native.Nat.{_+_, _-_, _≤_}
+use lib.ListN.{length}
+use Rattle.check_apply.proofs.plain.swap_blocks.Statement.{statement}
+use Rattle.check_apply.proofs.plain.swap_blocks.Tie as tie
+
+abbrev Inv-loop : tie.InvT-loop
+Inv-loop blocks₀ width p q a b j₀ blocks j = (j ≤ width) × (length blocks ≡ length blocks₀)
+
+abbrev μ-loop : tie.MeasureT-loop
+μ-loop blocks₀ width p q a b j₀ blocks j = width - j
+
+times-requires : tie.Need-times-requires Inv-loop μ-loop
+times-requires c κs = search needs
+
+times-requires-2 : tie.Need-times-requires-2 Inv-loop μ-loop
+times-requires-2 c κs = search needs
+
+loop-holds : tie.Need-loop-holds Inv-loop μ-loop
+loop-holds c = search needs
+
+add-requires : tie.Need-add-requires Inv-loop μ-loop
+add-requires c κs = search needs
+
+add-requires-2 : tie.Need-add-requires-2 Inv-loop μ-loop
+add-requires-2 c κs = search needs
+
+swap-requires : tie.Need-swap-requires Inv-loop μ-loop
+swap-requires c κs = search needs
+
+add-j : tie.Need-add-j Inv-loop μ-loop
+add-j c = search needs
+
+loop-less : tie.Need-loop-less Inv-loop μ-loop
+loop-less c = search needs
+
+loop-again : tie.Need-loop-again Inv-loop μ-loop
+loop-again c = search needs
+
+same-length : tie.Need-same-length Inv-loop μ-loop
+same-length c = search needs
+
+returns : tie.Need-returns Inv-loop μ-loop
+returns c = search needs
+
+pub swap-blocks-spec : {M : Type 1} → statement M
+swap-blocks-spec =
+    tie.close
+    (tie.spec
+    Inv-loop
+    μ-loop
+    times-requires
+    times-requires-2
+    loop-holds
+    add-requires
+    add-requires-2
+    swap-requires
+    add-j
+    loop-less
+    loop-again
+    same-length
+    returns)

@@ -1,0 +1,238 @@
+// Runs `apply` and `apply_inverse` against a second, plainly written mixer, and prints how many answers and buffers were
+// compared and how many of them were equal.
+mod plain;
+mod tally;
+
+use answers::Answer;
+use tally::Tally;
+ghost use Prim.Native.Nat.{_≤_};
+ghost use lib.ListN.{length};
+
+// One of the two calls, on parts of the buffers.
+fn call(
+    n: usize,
+    width: usize,
+    blocks: &mut [u8],
+    bytes: usize,
+    bits: &[u8],
+    w: usize,
+    log: &mut [u16],
+    words: usize,
+    back: bool,
+) -> Answer
+    requires { ⌜ (bytes ≤ length (now blocks)) × (w ≤ length (now bits)) × (words ≤ length (now log)) ⌝ }
+{
+    if back {
+        return apply::apply_inverse(
+            n,
+            width,
+            &mut blocks[..bytes],
+            &bits[..w],
+            &mut log[..words],
+        );
+    }
+    apply::apply(
+        n,
+        width,
+        &mut blocks[..bytes],
+        &bits[..w],
+        &mut log[..words],
+    )
+}
+
+fn least(a: usize, b: usize) -> usize
+    ensures { λ r. ⌜ r ≤ b ⌝ }
+{
+    if a < b { a } else { b }
+}
+
+fn answer(number: usize, place: usize, count: usize) -> Answer {
+    Answer {
+        number,
+        place,
+        count,
+    }
+}
+
+// ---- accepted calls: the answer, the blocks, and the log with the words behind it
+
+// The words of w entries, and five more.
+fn room(w: usize) -> usize
+    requires { ⌜ w ≤ 9217 ⌝ }
+    ensures { λ r. ⌜ r ≤ 27656 ⌝ }
+{
+    3 * w + 5
+}
+
+fn ours(
+    n: usize,
+    width: usize,
+    bits: &[u8; 9217],
+    w: usize,
+    blocks: &mut [u8; 262144],
+    log: &mut [u16; 27656],
+    back: bool,
+) -> Answer
+    requires { ⌜ w ≤ 9217 ⌝ }
+{
+    let bytes = plain::times(n, width);
+    let words = room(w);
+    call(n, width, blocks, bytes, bits, w, log, words, back)
+}
+
+fn tally_buffers(
+    t: Tally,
+    a: &[u8; 262144],
+    b: &[u8; 262144],
+    la: &[u16; 27656],
+    lb: &[u16; 27656],
+) -> Tally {
+    let t1 = tally::tallied(t, plain::same_bytes(a, b));
+    tally::tallied(t1, plain::same_words(la, lb))
+}
+
+fn compare(
+    t: Tally,
+    n: usize,
+    width: usize,
+    lower: &[usize],
+    upper: &[usize],
+    w: usize,
+    bits: &[u8; 9217],
+    seed: u32,
+    back: bool,
+) -> Tally
+    requires { ⌜ w ≤ 9217 ⌝ }
+{
+    let mut a = [0u8; 262144];
+    let mut b = [0u8; 262144];
+    plain::fill(&mut a, seed, 256);
+    plain::fill(&mut b, seed, 256);
+    let mut la = [77u16; 27656];
+    let mut lb = [77u16; 27656];
+    let x = ours(n, width, bits, w, &mut a, &mut la, back);
+    plain::run(&mut b, width, lower, upper, w, bits, &mut lb, back);
+    tally_buffers(tally::answers(t, x, answer(0, 0, w)), &a, &b, &la, &lb)
+}
+
+fn check(t: Tally, n: usize, width: usize, seed: u32, back: bool) -> Tally {
+    let mut lower = [0usize; 9217];
+    let mut upper = [0usize; 9217];
+    let count = plain::list(n, &mut lower, &mut upper);
+    let mut bits = [0u8; 9217];
+    plain::fill(&mut bits, seed, 2);
+    compare(
+        t,
+        n,
+        width,
+        &lower,
+        &upper,
+        least(count, 9217),
+        &bits,
+        seed,
+        back,
+    )
+}
+
+fn check_widths(t: Tally, n: usize, seed: u32, back: bool) -> Tally {
+    let t1 = check(t, n, 1, seed, back);
+    let t2 = check(t1, n, 6, seed, back);
+    let t3 = check(t2, n, 255, seed, back);
+    check(t3, n, 256, seed, back)
+}
+
+// Sizes from `from` to `to`.
+fn check_sizes(before: Tally, from: usize, to: usize, back: bool) -> Tally
+    requires { ⌜ (from ≤ to) × (to ≤ 1024) ⌝ }
+{
+    let mut t = before;
+    let mut n = from;
+    while n <= to {
+        t = check_widths(t, n, (n as u32) * 3 + 1, back);
+        n += 1;
+    }
+    t
+}
+
+fn check_all(t: Tally, back: bool) -> Tally {
+    let t1 = check_sizes(t, 0, 33, back);
+    let t2 = check_sizes(t1, 127, 128, back);
+    let t3 = check_sizes(t2, 255, 259, back);
+    let t4 = check_sizes(t3, 1000, 1000, back);
+    check_sizes(t4, 1024, 1024, back)
+}
+
+// ---- refused calls: the answer, and both buffers as they were
+
+fn refused(
+    t: Tally,
+    n: usize,
+    width: usize,
+    bytes: usize,
+    w: usize,
+    words: usize,
+    bad: usize,
+    number: usize,
+    place: usize,
+    back: bool,
+) -> Tally
+    requires { ⌜ (bytes ≤ 64) × (w ≤ 16) × (words ≤ 64) × (bad ≤ 15) ⌝ }
+{
+    let mut bits = [1u8; 16];
+    bits[bad] = 2;
+    let mut a = [33u8; 64];
+    let mut la = [77u16; 64];
+    let x = call(n, width, &mut a, bytes, &bits, w, &mut la, words, back);
+    let t1 = tally::answers(t, x, answer(number, place, 0));
+    let t2 = tally::tallied(t1, plain::same_bytes(&a, &[33u8; 64]));
+    tally::tallied(t2, plain::same_words(&la, &[77u16; 64]))
+}
+
+// Five places of six bytes: 30 bytes, 8 bits, 24 words. Each question gets a no alone, then with every later one.
+fn refuse_lengths(t: Tally, back: bool) -> Tally {
+    let t1 = refused(t, 1025, 6, 30, 8, 24, 15, 1, 0, back);
+    let t2 = refused(t1, 1025, 0, 31, 7, 23, 0, 1, 0, back);
+    let t3 = refused(t2, 5, 0, 30, 8, 24, 15, 2, 0, back);
+    let t4 = refused(t3, 5, 257, 30, 8, 24, 15, 2, 0, back);
+    let t5 = refused(t4, 5, 257, 31, 7, 23, 0, 2, 0, back);
+    let t6 = refused(t5, 5, 6, 29, 8, 24, 15, 3, 0, back);
+    let t7 = refused(t6, 5, 6, 31, 8, 24, 15, 3, 0, back);
+    refused(t7, 5, 6, 31, 7, 23, 0, 3, 0, back)
+}
+
+fn refuse_contents(t: Tally, back: bool) -> Tally {
+    let t1 = refused(t, 5, 6, 30, 7, 24, 15, 4, 0, back);
+    let t2 = refused(t1, 5, 6, 30, 9, 24, 15, 4, 0, back);
+    let t3 = refused(t2, 5, 6, 30, 7, 23, 0, 4, 0, back);
+    let t4 = refused(t3, 5, 6, 30, 8, 23, 15, 5, 0, back);
+    let t5 = refused(t4, 5, 6, 30, 8, 23, 0, 5, 0, back);
+    let t6 = refused(t5, 5, 6, 30, 8, 24, 0, 7, 0, back);
+    let t7 = refused(t6, 5, 6, 30, 8, 24, 3, 7, 3, back);
+    refused(t7, 5, 6, 30, 8, 40, 7, 7, 7, back)
+}
+
+fn refuse_all(t: Tally) -> Tally {
+    let t1 = refuse_contents(refuse_lengths(t, false), false);
+    refuse_contents(refuse_lengths(t1, true), true)
+}
+
+fn print(label: &[u8], t: Tally) {
+    io::write_all(1, label);
+    io::write_all(1, b": compared ");
+    io::print_decimal(1, t.compared);
+    io::write_all(1, b", equal ");
+    io::print_decimal(1, t.equal);
+    io::write_all(1, b"\n");
+}
+
+fn main() {
+    print(
+        b"apply at 43 sizes and 4 widths",
+        check_all(tally::none(), false),
+    );
+    print(
+        b"apply_inverse at 43 sizes and 4 widths",
+        check_all(tally::none(), true),
+    );
+    print(b"refusals", refuse_all(tally::none()));
+}
