@@ -41,9 +41,16 @@ set-asked order bits log e =
 pub set-passes : (order bits log : List ℕ) → SetAsked order bits log → firstNo (setQuestions order bits log) ≡ allYes
 set-passes order bits log A =
     let n = length order in
-    yes-each (setQuestions order bits log)
-    (le-leb n 1024 (A .small), (eq-eqb (length bits) (W n) (A .bit-count), (le-leb (3 * E n) (length log) (A .log-room),
-      (eq-eqb (firstBadEntry order) n (permutation-passes n order (A .permutation)), tt))))
+    yes-each (setQuestions order bits log) (
+      le-leb n 1024 (A .small),
+      (
+        eq-eqb (length bits) (W n) (A .bit-count),
+        (
+          le-leb (3 * E n) (length log) (A .log-room),
+          (eq-eqb (firstBadEntry order) n (permutation-passes n order (A .permutation)), tt),
+        ),
+      ),
+    )
 
 pub set-numbered : (order bits log : List ℕ) → Numbered (setQuestions order bits log)
 set-numbered order bits log = (omega arith, (omega arith, (omega arith, (omega arith, tt))))
