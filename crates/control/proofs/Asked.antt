@@ -1,9 +1,8 @@
 -- The call from its questions: each refusal, and the accepted call.
 -- Assumes nothing.
-use mathlib.Core.Path.{_≡_, refl, sym, ap, _∙_}
-use mathlib.Core.Bool.{true, false}
+use mathlib.Core.Path.{_≡_, sym, ap, _∙_}
 use mathlib.Core.List.{List, [], _∷_}
-use Prim.Native.Nat.{ℕ, _+_, _*_, _≤_, _<_}
+use Prim.Native.Nat.{ℕ, _*_, _≤_, _<_}
 use native.Mathlib.Omega.{arith}
 use native.Mathlib.Decide.{decLt}
 use lib.Dec.{leb, eqb}
@@ -11,9 +10,9 @@ use lib.ListN.{length, getD, List·getD-eq-default}
 use borrow.Author.Tests.{le-leb, lt-leb, eq-eqb, ne-eqb}
 use Rattle.answers.specs.declared.Answer.{Answer}
 use Rattle.answers.specs.Answers.{refusal, accepted}
-use Rattle.answers.specs.Questions.{Question, ask, askEach, allYes, noAt, firstNo, firstBad}
+use Rattle.answers.specs.Questions.{Question, ask, askEach, allYes, noAt, firstNo}
 use Rattle.answers.specs.Outcomes.{logged}
-use Rattle.answers.proofs.Questions.{asked-yes, asked-no, all-good}
+use Rattle.answers.proofs.Questions.{asked-yes, asked-no}
 use Rattle.answers.proofs.Outcomes.{logged-refused, logged-accepted}
 use Rattle.answers.proofs.Buffers.{overlay-whole}
 use Rattle.counts.specs.Counts.{W, E}

@@ -2,9 +2,9 @@
 -- Assumes nothing.
 use native.Mathlib.Omega.{arith}
 use borrow.Author.Needs.{needs}
-use Rattle.control.proofs.Stepping.{went-one, step2-is}
-use Rattle.control.proofs.step2.Statement.{statement}
-use Rattle.control.proofs.step2.Tie as tie
+use Rattle.setter.proofs.Stepping.{went-one, step2-is}
+use Rattle.setter.proofs.step2.Statement.{statement}
+use Rattle.setter.proofs.step2.Tie as tie
 
 add-k : tie.Need-add-k
 add-k c = search needs
