@@ -49,7 +49,7 @@ fn rounds(
 {
     let k = (m + 1) / 2;
     let mut x = w;
-    let mut i = 0;
+    let mut i = 0; // rounds done
     while i < k {
         x = round(vals, marks, bits, o, m, log, x);
         i += 1;
@@ -170,7 +170,7 @@ fn set_table(
 }
 
 // The setter after its questions: sets an order, logs, and counts the entries.
-pub fn set_order(order: &[u16], bits: &mut [u8], log: &mut [u16]) -> usize
+fn set_order(order: &[u16], bits: &mut [u8], log: &mut [u16]) -> usize
     requires { ⌜ (length (now order) ≤ 1024) × Below 1024 (now order) × (length (now bits) ≡ W (length (now order))) × (length (now bits) ≤ 9217) × (3 * E (length (now order)) ≤ length (now log)) ⌝ }
     ensures { λ r. ⌜ Sets (now (order .entry)) (now (log .entry)) r (now (bits .exit)) (now (log .exit)) ⌝ }
 {

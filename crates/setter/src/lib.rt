@@ -68,8 +68,8 @@ pub fn step2(vals: &[u16], o: usize, m: usize, log: &mut [u16], w: Walk) -> Walk
     requires { ⌜ (2 ≤ m) × (o + m ≤ 1024) × (o + m ≤ length (now vals)) × (3 * w .e + 3 ≤ length (now log)) × Below 32768 (now vals) × (w .g < 32768) ⌝ }
     ensures { λ r. ⌜ Went (entry 2 o m ∷ []) 0 w r (now (log .entry)) (now (log .exit)) × ((ts ms bs : List ℕ) (bit : ℕ) → state (now (vals .entry)) ts ms bs r ≡ step2 paper (within o m bit) (state (now (vals .entry)) ts ms bs w)) ⌝ }
 {
-    let k = (m + 1) / 2;
-    let s = sweeps::seek_for(vals, o, m, sweeps::other_of(k as u16, w.g));
+    let k = ((m + 1) / 2) as u16;
+    let s = sweeps::seek_for(vals, o, m, sweeps::other_of(k, w.g));
     let e = w.e;
     sweeps::write_entry(log, e, 2, o, m);
     Walk {
