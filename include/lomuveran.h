@@ -22,7 +22,7 @@ extern "C" {
 #define LOMUVERAN_MAX_WIDTH 256
 #define LOMUVERAN_MAX_SWITCHES 9217
 #define LOMUVERAN_MAX_ENTRIES 16381
-#define LOMUVERAN_MAX_SHEET 1321
+#define LOMUVERAN_MAX_SHEET 1320
 
 /* The questions, named by their no. */
 enum {
