@@ -10,7 +10,7 @@ fn set(tally: &mut Tally, random: &mut Random, order: &[u16], bits: usize, log: 
     let (mut lent_bits, mut lent_log) = (bytes(&random.bytes(bits)), words(&random.words(log)));
     let mut lent_order = words(order);
     let is = lomuveran::control_bits(lent_order.part(), lent_bits.part(), lent_log.part());
-    tally.same(seen(is), plain::outcome(&must, |m| m.0), order);
+    tally.outcome(seen(is), plain::outcome(&must, |m| m.0), order);
     let (_, bits, log) = must.unwrap_or_default();
     lent_bits.check(tally, &bits, order);
     lent_log.check(tally, &log, order);
@@ -26,7 +26,7 @@ fn mix(tally: &mut Tally, random: &mut Random, n: usize, width: usize, filled: u
         let call = if back { lomuveran::apply_inverse } else { lomuveran::apply };
         let is = call(n, width, lent_blocks.part(), bits, lent_log.part());
         let of = (back, n, width, filled, bits.len(), log);
-        tally.same(seen(is), plain::outcome(&must, |m| m.0), of);
+        tally.outcome(seen(is), plain::outcome(&must, |m| m.0), of);
         let (_, blocks, log) = must.unwrap_or_default();
         lent_blocks.check(tally, &blocks, of);
         lent_log.check(tally, &log, of);
@@ -105,7 +105,7 @@ fn refused_settings() {
         let log = (3 * e).saturating_add_signed([0, 0, 1, 50, -1][random.below(5)]);
         set(&mut tally, &mut random, &order, bits, log);
     }
-    tally.say("outcomes and buffers of set, valid and damaged");
+    tally.say_questions("outcomes and buffers of set", &[0, 1, 4, 5, 6]);
 }
 
 #[test]
@@ -129,5 +129,5 @@ fn refused_mixings() {
         mix(&mut tally, &mut random, n, 1, 0, &[], 0);
         mix(&mut tally, &mut random, 0, n, 0, &[], 0);
     }
-    tally.say("outcomes and buffers of mix and return, valid and damaged");
+    tally.say_questions("outcomes and buffers of mix and return", &[0, 1, 2, 3, 4, 5, 7]);
 }

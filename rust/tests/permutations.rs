@@ -86,11 +86,11 @@ fn draws() {
         let room = n.saturating_add_signed([0, 1, 40, -1][random.below(4)]);
         let must = plain::shuffle(n, &given, room);
         let mut out = words(&random.words(room));
-        tally.same(seen(lomuveran::shuffle(n, &given, out.part())), plain::outcome(&must, Vec::len), (n, room));
+        tally.outcome(seen(lomuveran::shuffle(n, &given, out.part())), plain::outcome(&must, Vec::len), (n, room));
         out.check(&mut tally, &must.unwrap_or_default(), (n, room));
         tally.same(list(Permutation::shuffle(&given)), plain::shuffle(given.len(), &given, usize::MAX), n);
     }
-    tally.say("outcomes and buffers of draws");
+    tally.say_questions("outcomes and buffers of draws", &[0, 1, 13, 16]);
 }
 
 #[test]

@@ -8,7 +8,7 @@ use lomuveran::Setting;
 fn write(tally: &mut Tally, random: &mut Random, n: usize, bits: &[u8], room: usize) {
     let must = plain::write(n, bits, room);
     let mut out = bytes(&random.bytes(room));
-    tally.same(seen(lomuveran::write_sheet(n, bits, out.part())), plain::outcome(&must, Vec::len), (n, bits, room));
+    tally.outcome(seen(lomuveran::write_sheet(n, bits, out.part())), plain::outcome(&must, Vec::len), (n, bits, room));
     out.check(tally, &must.unwrap_or_default(), (n, bits, room));
 }
 
@@ -16,7 +16,7 @@ fn read(tally: &mut Tally, random: &mut Random, input: &[u8], room: usize) {
     let must = plain::read(input, room);
     let mut bits = bytes(&random.bytes(room));
     let mut lent = bytes(input);
-    tally.same(seen(lomuveran::read_sheet(lent.part(), bits.part())), plain::outcome(&must, |m| m.0), (input, room));
+    tally.outcome(seen(lomuveran::read_sheet(lent.part(), bits.part())), plain::outcome(&must, |m| m.0), (input, room));
     lent.check(tally, &[], input);
     bits.check(tally, &must.unwrap_or_default().1, (input, room));
 }
@@ -48,7 +48,7 @@ fn written() {
         let room = long.saturating_add_signed([0, 1, 30, -1][random.below(4)]);
         write(&mut tally, &mut random, n, &bits, room);
     }
-    tally.say("outcomes and buffers of write sheet, valid and damaged");
+    tally.say_questions("outcomes and buffers of write sheet", &[0, 1, 4, 7, 13]);
 }
 
 #[test]
@@ -75,7 +75,7 @@ fn read_back_and_damaged() {
             read(&mut tally, &mut random, &damaged, 9217);
         }
     }
-    tally.say("outcomes and buffers of read sheet, valid and damaged");
+    tally.say_questions("outcomes and buffers of read sheet", &[0, 1, 4, 8, 9, 10, 11, 12]);
 }
 
 #[test]

@@ -5,7 +5,7 @@
 pub mod plain;
 
 use lomuveran::Refusal;
-use std::fmt::Debug;
+use std::{collections::BTreeSet, fmt::Debug};
 
 /// A count, or the question and the place of the refusal.
 pub type Outcome = Result<usize, (usize, usize)>;
@@ -14,9 +14,9 @@ pub fn seen(result: Result<usize, Refusal>) -> Outcome {
     result.map_err(|refusal| (refusal.question, refusal.place))
 }
 
-/// Compares, and counts what was compared.
+/// Compares; counts what was compared, and keeps which questions refused (0: none did).
 #[derive(Default)]
-pub struct Tally(usize);
+pub struct Tally(usize, BTreeSet<usize>);
 
 impl Tally {
     #[track_caller]
@@ -25,9 +25,21 @@ impl Tally {
         assert!(is == must, "{of:?}:\n   is {is:?}\n must {must:?}");
     }
 
+    #[track_caller]
+    pub fn outcome(&mut self, is: Outcome, must: Outcome, of: impl Debug) {
+        self.same(is, must, of);
+        self.1.insert(must.map_or_else(|refused| refused.0, |_| 0));
+    }
+
     pub fn say(&self, what: &str) {
         assert!(self.0 > 0, "nothing was compared");
         println!("compared {} {what}", self.0);
+    }
+
+    /// Every one of these questions must have refused a call, and no other.
+    pub fn say_questions(&self, what: &str, questions: &[usize]) {
+        assert!(self.1.iter().eq(questions), "refusals seen: {:?}, not {questions:?}", self.1);
+        self.say(&format!("{what}; accepted, and refused by {:?}", &questions[1..]));
     }
 }
 
