@@ -23,9 +23,9 @@ pub struct Permutation {
 impl Permutation {
     /// Each place to itself. Question 1.
     pub fn identity(n: usize) -> Result<Permutation, Refusal> {
-        let mut entries = vec![0; n.min(MAX_PLACES + 1)]; // one too many is refused as any more would be
-                                                          // SAFETY: the pointer goes with its slice's length; where there are two slices, the borrows keep them apart. The same
-                                                          // holds below.
+        // one entry too many is refused as any more would be
+        let mut entries = vec![0; n.min(MAX_PLACES + 1)];
+        // SAFETY: a pointer goes with its slice's length; the borrows keep two slices apart. The same holds below.
         unsafe { ffi::lomuveran_permutation_identity(entries.as_mut_ptr(), entries.len()) }.count()?;
         Ok(Permutation { entries })
     }

@@ -23,7 +23,8 @@ def same(is_, must, what):
     compared += 1
     if is_ != must:
         wrong += 1
-        print(f'{what}: is {is_!r}, must be {must!r}'[:300])
+        if wrong <= 10:
+            print(f'{what}: is {is_!r}, must be {must!r}'[:300])
 
 
 def damaged(sheet):
