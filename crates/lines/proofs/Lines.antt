@@ -14,7 +14,7 @@ use Rattle.answers.specs.Buffers.{overlay}
 use Rattle.answers.proofs.Buffers.{overlay-none, overlay-one, overlay-more, overlay-length}
 use Rattle.codec.specs.Inner.{Put}
 use Rattle.codec.proofs.Writing.{put-then}
-use Rattle.lines.specs.Text.{text, decimal, character, characters, bitsText, line, settingLines, refusalLine}
+use Rattle.lines.specs.Text.{text, decimal, character, characters, bitsText, line, refusalLine}
 use Rattle.lines.proofs.Decimal.{decimal-one, decimal-more, digits-few}
 
 -- ---- a part at a time
@@ -133,22 +133,12 @@ pub bits-long : (bs : List ℕ) → (length bs ≡ 0 → ⊥) → length (bitsTe
 bits-long bs n = ap length (bits-some bs n) ∙ length-characters bs
 
 -- one character for each bit, and one for none
-bits-within : (bs : List ℕ) → length bs ≤ 9217 → length (bitsText bs) ≤ 9217
-bits-within [] h = omega (arith, ap length (bits-none [] refl))
-bits-within (b ∷ bs) h = omega (arith, bits-long (b ∷ bs) (λ e. omega arith))
+pub bits-within : (bs : List ℕ) (m : ℕ) → 1 ≤ m → length bs ≤ m → length (bitsText bs) ≤ m
+bits-within [] m g h = omega (arith, ap length (bits-none [] refl))
+bits-within (b ∷ bs) m g h = omega (arith, bits-long (b ∷ bs) (λ e. omega arith))
 
--- ---- the longest texts
-
--- 12 + 9,226 + 14 bytes
-pub lines-fit : (n : ℕ) (bits : List ℕ) (e : ℕ) → n ≤ 1024 → length bits ≤ 9217 → e ≤ 16381 → length (settingLines n bits e) ≤ 9252
-unfolding settingLines
-lines-fit n bits e h g l =
-    let a : length (decimal n) ≤ 4 = digits-few 3 n (let z : n < 10000 = omega arith in z) in
-    let b : length (decimal e) ≤ 5 = digits-few 4 e (let z : e < 100000 = omega arith in z) in
-    simp length-append (omega (arith, a, b, bits-within bits g))
-
--- any two numbers of the machine
-pub refusal-fits : (q p : ℕ) → q < 2 ^ 64 → p < 2 ^ 64 → length (refusalLine q p) ≤ 9252
+-- the longest refusal, of any two numbers of the machine: 8 + 20 + 4 + 20 + 1 bytes
+pub refusal-fits : (q p : ℕ) → q < 2 ^ 64 → p < 2 ^ 64 → length (refusalLine q p) ≤ 53
 unfolding refusalLine
 refusal-fits q p h g =
     let a : length (decimal q) ≤ 20 = digits-few 19 q (let z : q < 100000000000000000000 = omega arith in z) in

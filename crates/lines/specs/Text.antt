@@ -1,4 +1,4 @@
--- The lines that the program `settings` prints (01, 'Month cases').
+-- The lines that the programs print (01, 'Month cases').
 -- Assumes nothing: these are definitions.
 use mathlib.Core.Bool.{true, false}
 use mathlib.Core.List.{List, [], _∷_, _++_}
@@ -38,10 +38,6 @@ bitsText (b ∷ bs) = characters (b ∷ bs)
 
 abbrev pub line : String → List ℕ → List ℕ
 line label content = text label ++ (content ++ text "\n")
-
--- the number of places, the bits, the setter's entry count
-unfoldable pub settingLines : ℕ → List ℕ → ℕ → List ℕ
-settingLines n bits entries = line "places " (decimal n) ++ (line "setting " (bitsText bits) ++ line "entries " (decimal entries))
 
 -- a refusal: the question's number and the place of its no
 unfoldable pub refusalLine : ℕ → ℕ → List ℕ

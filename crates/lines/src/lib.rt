@@ -1,14 +1,16 @@
-// The lines that the program `settings` prints, put into a buffer. Each function puts bytes at a place of out, or at its
-// front, and answers the place after them; each `requires` room for them.
+// The lines that the programs print, put into a buffer. Each function puts bytes at a place of out, or at its front, and
+// answers the place after them; each `requires` room for them. They are public for the crates of the programs' texts, which
+// know how long a text gets.
 ghost use mathlib.Core.Path.{_≡_};
 ghost use mathlib.Core.List.{_++_};
 ghost use Prim.Native.Nat.{_+_, _≤_};
 ghost use lib.ListN.{length};
 ghost use Rattle.codec.specs.Inner.{Put};
-ghost use Rattle.lines.specs.Text.{text, decimal, character, bitsText, line, settingLines, refusalLine};
+ghost use Rattle.lines.specs.Text.{text, decimal, character, bitsText, line, refusalLine};
 use answers::Answer;
 
-fn put_text(out: &mut [u8], at: usize, bytes: &[u8]) -> usize
+// The bytes as they are.
+pub fn put_text(out: &mut [u8], at: usize, bytes: &[u8]) -> usize
     requires { ⌜ at + length (now bytes) ≤ length (now out) ⌝ }
     ensures { λ r. ⌜ Put (now (out .entry)) at (now (bytes .entry)) r (now (out .exit)) ⌝ }
 {
@@ -20,8 +22,8 @@ fn put_text(out: &mut [u8], at: usize, bytes: &[u8]) -> usize
     at + i
 }
 
-// The higher digits first, then the lowest.
-fn put_decimal(out: &mut [u8], at: usize, v: usize) -> usize
+// A number in decimal: the higher digits first, then the lowest.
+pub fn put_decimal(out: &mut [u8], at: usize, v: usize) -> usize
     requires { ⌜ at + length (decimal v) ≤ length (now out) ⌝ }
     ensures { λ r. ⌜ Put (now (out .entry)) at (decimal v) r (now (out .exit)) ⌝ }
 {
@@ -40,7 +42,8 @@ fn bit_character(b: u8) -> u8
     if b == 1 { b'1' } else { b'0' }
 }
 
-fn put_bits(out: &mut [u8], at: usize, bits: &[u8]) -> usize
+// The bits in sequence, or `-` if none.
+pub fn put_bits(out: &mut [u8], at: usize, bits: &[u8]) -> usize
     requires { ⌜ at + length (bitsText (now bits)) ≤ length (now out) ⌝ }
     ensures { λ r. ⌜ Put (now (out .entry)) at (bitsText (now (bits .entry))) r (now (out .exit)) ⌝ }
 {
@@ -56,7 +59,7 @@ fn put_bits(out: &mut [u8], at: usize, bits: &[u8]) -> usize
 }
 
 // A line of a label and a number.
-fn put_number(out: &mut [u8], at: usize, label: &[u8], v: usize) -> usize
+pub fn put_number(out: &mut [u8], at: usize, label: &[u8], v: usize) -> usize
     requires { ⌜ at + length (now label ++ (decimal v ++ text "\n")) ≤ length (now out) ⌝ }
     ensures { λ r. ⌜ Put (now (out .entry)) at (now (label .entry) ++ (decimal v ++ text "\n")) r (now (out .exit)) ⌝ }
 {
@@ -65,7 +68,8 @@ fn put_number(out: &mut [u8], at: usize, label: &[u8], v: usize) -> usize
     put_text(out, b, b"\n")
 }
 
-fn put_setting(out: &mut [u8], at: usize, bits: &[u8]) -> usize
+// A line of bits.
+pub fn put_setting(out: &mut [u8], at: usize, bits: &[u8]) -> usize
     requires { ⌜ at + length (line "setting " (bitsText (now bits))) ≤ length (now out) ⌝ }
     ensures { λ r. ⌜ Put (now (out .entry)) at (line "setting " (bitsText (now (bits .entry)))) r (now (out .exit)) ⌝ }
 {
@@ -74,17 +78,7 @@ fn put_setting(out: &mut [u8], at: usize, bits: &[u8]) -> usize
     put_text(out, b, b"\n")
 }
 
-// The three lines of an accepted input. Public for the crate `report` only, which knows that the text fits.
-pub fn put_lines(out: &mut [u8], n: usize, bits: &[u8], entries: usize) -> usize
-    requires { ⌜ length (settingLines n (now bits) entries) ≤ length (now out) ⌝ }
-    ensures { λ r. ⌜ Put (now (out .entry)) 0 (settingLines n (now (bits .entry)) entries) r (now (out .exit)) ⌝ }
-{
-    let a = put_number(out, 0, b"places ", n);
-    let b = put_setting(out, a, bits);
-    put_number(out, b, b"entries ", entries)
-}
-
-// The line of a refusal, public for the same reason.
+// The line of a refusal.
 pub fn put_refusal(out: &mut [u8], refused: Answer) -> usize
     requires { ⌜ length (refusalLine (refused .number) (refused .place)) ≤ length (now out) ⌝ }
     ensures { λ r. ⌜ Put (now (out .entry)) 0 (refusalLine (refused .number) (refused .place)) r (now (out .exit)) ⌝ }

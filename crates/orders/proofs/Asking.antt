@@ -136,7 +136,7 @@ module _ (input : List ℕ) where
 -- ---- the whole call: then question 6, and the setting
 
 -- at most 1,024 places where the input passes
-places-small : (input : List ℕ) → firstNo (formQuestions input) ≡ allYes → countIn input ≤ 1024
+pub places-small : (input : List ℕ) → firstNo (formQuestions input) ≡ allYes → countIn input ≤ 1024
 unfolding formQuestions
 places-small input e =
     let rest : List Question = numbersQuestions (countIn input) input (entriesAt input) ++ (ask 12 (endOf input) (leb (length input) (endOf input)) ∷ []) in
