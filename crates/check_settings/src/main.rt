@@ -1,0 +1,204 @@
+// Runs `settings_text` on stored inputs: each refusal, small orders, and orders of 1,024 places.
+ghost use mathlib.Core.Path.{_≡_};
+ghost use Prim.Native.Nat.{_+_, _*_, _≤_, _<_};
+use libc::STDOUT_FILENO;
+
+// The text of an input.
+fn show(input: &[u8]) {
+    let mut text = [0u8; 9252];
+    let end = report::settings_text(input, &mut text);
+    io::write_all(STDOUT_FILENO, &text[..end]);
+}
+
+// The length of a text, and the sum of its bytes, each times its place counted from 1. The text itself would fill the
+// stored output.
+fn show_sum(input: &[u8]) {
+    let mut text = [0u8; 9252];
+    let end = report::settings_text(input, &mut text);
+    let mut sum = 0u64;
+    let mut i = 0;
+    while i < 9252 {
+        if i < end {
+            sum = std::num::wrapping_add_u64(sum, term(i, text[i]));
+        }
+        i += 1;
+    }
+    io::print_decimal(STDOUT_FILENO, end as u64);
+    io::write_all(STDOUT_FILENO, b" bytes, sum ");
+    io::print_decimal(STDOUT_FILENO, sum);
+    io::write_all(STDOUT_FILENO, b"\n");
+}
+
+fn term(i: usize, byte: u8) -> u64
+    requires { ⌜ i < 9252 ⌝ }
+{
+    (i as u64 + 1) * byte as u64
+}
+
+// A number in one or two bytes at a place: the place after it.
+fn put(input: &mut [u8; 2051], at: usize, v: usize) -> usize
+    requires { ⌜ (at + 2 ≤ 2051) × (v < 16384) ⌝ }
+    ensures { λ r. ⌜ r ≤ at + 2 ⌝ }
+{
+    if v < 128 {
+        input[at] = v as u8;
+        return at + 1;
+    }
+    input[at] = (v % 128 + 128) as u8;
+    input[at + 1] = (v / 128) as u8;
+    at + 2
+}
+
+// The count 1,024 and its entries: entry i is a × i + b mod 1,024, a permutation where a is odd. The answer is its length.
+fn large(input: &mut [u8; 2051], a: usize, b: usize) -> usize
+    requires { ⌜ (a ≤ 1024) × (b ≤ 1024) ⌝ }
+    ensures { λ r. ⌜ r ≤ 2050 ⌝ }
+{
+    let mut at = put(input, 0, 1024);
+    let mut i = 0;
+    while i < 1024 {
+        at = put(input, at, (a * i + b) % 1024);
+        i += 1;
+    }
+    at
+}
+
+// Orders of 1,024 places: their texts' sums, and their refusals.
+fn show_large() {
+    let mut input = [0u8; 2051];
+    let end = large(&mut input, 1, 0);
+    show_sum(&input[..end]);
+    let more = end + 1;
+    show(&input[..more]);
+    if 1 < end {
+        let less = end - 1;
+        show(&input[..less]);
+    }
+    let reversed = large(&mut input, 1023, 1023);
+    show_sum(&input[..reversed]);
+    let mixed = large(&mut input, 389, 77);
+    show_sum(&input[..mixed]);
+    let repeated = large(&mut input, 2, 1);
+    show(&input[..repeated]);
+}
+
+// Each input behind the number of its bytes.
+fn show_each(inputs: &[u8]) {
+    let mut at = 0;
+    while at < inputs.len() {
+        let from = at + 1;
+        let to = from + wide(inputs[at]);
+        if inputs.len() < to {
+            return;
+        }
+        show(&inputs[from..to]);
+        at = to;
+    }
+}
+
+fn wide(x: u8) -> usize
+    ensures { λ r. ⌜ (r ≡ x) × (r < 256) ⌝ }
+{
+    x as usize
+}
+
+// Nothing; a second byte missing, needless, with its top bit set; 1,025 and 16,383 places; an entry missing, cut, longer
+// than needed; a surplus byte, also where the entries are bad; an entry twice, one of two bytes, one too large.
+const REFUSED: [u8; 50] = [
+    0,
+    1,
+    0x80,
+    2,
+    0x80,
+    0x00,
+    2,
+    0x80,
+    0x80,
+    2,
+    0x81,
+    0x08,
+    2,
+    0xff,
+    0x7f,
+    2,
+    2,
+    0,
+    3,
+    2,
+    0,
+    0x81,
+    4,
+    2,
+    0,
+    0x80,
+    0x00,
+    2,
+    0,
+    0,
+    4,
+    2,
+    0,
+    0,
+    7,
+    3,
+    2,
+    0,
+    0,
+    5,
+    3,
+    0,
+    0x81,
+    0x01,
+    2,
+    4,
+    3,
+    0,
+    1,
+    3,
+];
+
+// 0, 1, 2 (twice), 3 and 5 places, and case g.
+const SMALL: [u8; 36] = [
+    1,
+    0,
+    2,
+    1,
+    0,
+    3,
+    2,
+    0,
+    1,
+    3,
+    2,
+    1,
+    0,
+    4,
+    3,
+    1,
+    2,
+    0,
+    6,
+    5,
+    0,
+    3,
+    2,
+    1,
+    4,
+    10,
+    9,
+    6,
+    2,
+    3,
+    7,
+    5,
+    1,
+    8,
+    0,
+    4,
+];
+
+fn main() {
+    show_each(&REFUSED);
+    show_each(&SMALL);
+    show_large();
+}

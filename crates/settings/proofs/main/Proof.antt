@@ -1,0 +1,61 @@
+use mathlib.Core.Path.{sym}
+use lib.Seq.{length-take-le}
+use Rattle.report.proofs.Printing.{text-fits}
+use borrow.Author.Needs.{needs}
+use Rattle.settings.proofs.main.Statement.{statement}
+use Rattle.settings.proofs.main.Tie as tie
+use Rattle.settings.proofs.main.Reads as reads
+use Rattle.settings.proofs.main.Lts as lts
+use Rattle.io.proofs.read_full.Reads as read-full-reads
+use Rattle.io.proofs.write_all.Reads as write-all-reads
+use Rattle.report.proofs.settings_text.Reads as settings-text-reads
+
+-- src/main.rt:7:41
+slice-aggregate-read-full : tie.Need-slice-aggregate-read-full
+slice-aggregate-read-full c = search needs
+
+-- src/main.rt:7:9
+read-full-requires : tie.Need-read-full-requires
+read-full-requires c κs = search needs
+
+-- src/main.rt:9:37
+array-share-prefix-input : tie.Need-array-share-prefix-input
+array-share-prefix-input c = search needs
+
+-- src/main.rt:9:37
+slice-aggregate-settings-text : tie.Need-slice-aggregate-settings-text
+slice-aggregate-settings-text c = search needs
+
+-- src/main.rt:9:9
+settings-text-requires : tie.Need-settings-text-requires
+settings-text-requires c κs = search needs
+
+-- src/main.rt:10:34
+array-share-prefix-text : tie.Need-array-share-prefix-text
+array-share-prefix-text c = text-fits _ _ (c .settings-text .ensures)
+
+-- src/main.rt:10:34
+slice-aggregate-write-all : tie.Need-slice-aggregate-write-all
+slice-aggregate-write-all c = sym (length-take-le _ _ (text-fits _ _ (c .before .settings-text .ensures)))
+
+-- src/main.rt:10:5
+write-all-requires : tie.Need-write-all-requires
+write-all-requires c κs = search needs
+
+-- src/main.rt:5:1
+returns : tie.Need-returns
+returns c = search needs
+
+pub main-spec : {M : Type 1} → statement M
+main-spec =
+    tie.close
+    (tie.spec
+    slice-aggregate-read-full
+    read-full-requires
+    array-share-prefix-input
+    slice-aggregate-settings-text
+    settings-text-requires
+    array-share-prefix-text
+    slice-aggregate-write-all
+    write-all-requires
+    returns)
