@@ -1,6 +1,7 @@
-// Runs `settings_text` on stored inputs: each refusal, small orders, and orders of 1,024 places.
+// Runs `settings_text` on stored inputs: each refusal, small orders, and 1,024 places.
 ghost use mathlib.Core.Path.{_≡_};
-ghost use Prim.Native.Nat.{_+_, _*_, _≤_, _<_};
+ghost use Prim.Native.Nat.{_+_, _≤_, _<_};
+ghost use lib.ListN.{length};
 use libc::STDOUT_FILENO;
 
 // The text of an input.
@@ -10,35 +11,10 @@ fn show(input: &[u8]) {
     io::write_all(STDOUT_FILENO, &text[..end]);
 }
 
-// The length of a text, and the sum of its bytes, each times its place counted from 1. The text itself would fill the
-// stored output.
-fn show_sum(input: &[u8]) {
-    let mut text = [0u8; 9252];
-    let end = report::settings_text(input, &mut text);
-    let mut sum = 0u64;
-    let mut i = 0;
-    while i < 9252 {
-        if i < end {
-            sum = std::num::wrapping_add_u64(sum, term(i, text[i]));
-        }
-        i += 1;
-    }
-    io::print_decimal(STDOUT_FILENO, end as u64);
-    io::write_all(STDOUT_FILENO, b" bytes, sum ");
-    io::print_decimal(STDOUT_FILENO, sum);
-    io::write_all(STDOUT_FILENO, b"\n");
-}
-
-fn term(i: usize, byte: u8) -> u64
-    requires { ⌜ i < 9252 ⌝ }
-{
-    (i as u64 + 1) * byte as u64
-}
-
 // A number in one or two bytes at a place: the place after it.
-fn put(input: &mut [u8; 2051], at: usize, v: usize) -> usize
-    requires { ⌜ (at + 2 ≤ 2051) × (v < 16384) ⌝ }
-    ensures { λ r. ⌜ r ≤ at + 2 ⌝ }
+fn put(input: &mut [u8], at: usize, v: usize) -> usize
+    requires { ⌜ (at + 2 ≤ length (now input)) × (v < 16384) ⌝ }
+    ensures { λ r. ⌜ (at < r) × (r ≤ at + 2) ⌝ }
 {
     if v < 128 {
         input[at] = v as u8;
@@ -49,37 +25,43 @@ fn put(input: &mut [u8; 2051], at: usize, v: usize) -> usize
     at + 2
 }
 
-// The count 1,024 and its entries: entry i is a × i + b mod 1,024, a permutation where a is odd. The answer is its length.
-fn large(input: &mut [u8; 2051], a: usize, b: usize) -> usize
-    requires { ⌜ (a ≤ 1024) × (b ≤ 1024) ⌝ }
-    ensures { λ r. ⌜ r ≤ 2050 ⌝ }
+// The count 1,024 and its entries: b, and then each time a more, mod 1,024; a permutation where a is odd. The answer is its
+// length.
+fn large(input: &mut [u8], a: usize, b: usize) -> usize
+    requires { ⌜ (2051 ≤ length (now input)) × (a ≤ 1024) × (b < 1024) ⌝ }
+    ensures { λ r. ⌜ (1 ≤ r) × (r ≤ 2050) ⌝ }
 {
     let mut at = put(input, 0, 1024);
-    let mut i = 0;
+    let mut v = b;
+    let mut i = 0usize;
     while i < 1024 {
-        at = put(input, at, (a * i + b) % 1024);
+        at = put(input, at, v);
+        v = (v + a) % 1024;
         i += 1;
     }
     at
 }
 
-// Orders of 1,024 places: their texts' sums, and their refusals.
+// The text of the first n bytes.
+fn show_front(input: &[u8], n: usize) {
+    if n <= input.len() {
+        show(&input[..n]);
+    }
+}
+
+// 1,024 places: an order, a byte more and a byte less; each entry twice; the longest input, of entries in two bytes, and a
+// byte more.
 fn show_large() {
     let mut input = [0u8; 2051];
-    let end = large(&mut input, 1, 0);
-    show_sum(&input[..end]);
-    let more = end + 1;
-    show(&input[..more]);
-    if 1 < end {
-        let less = end - 1;
-        show(&input[..less]);
-    }
-    let reversed = large(&mut input, 1023, 1023);
-    show_sum(&input[..reversed]);
-    let mixed = large(&mut input, 389, 77);
-    show_sum(&input[..mixed]);
-    let repeated = large(&mut input, 2, 1);
-    show(&input[..repeated]);
+    let end = large(&mut input, 389, 77);
+    show_front(&input, end);
+    show_front(&input, end + 1);
+    show_front(&input, end - 1);
+    let twice = large(&mut input, 2, 1);
+    show_front(&input, twice);
+    let longest = large(&mut input, 0, 1023);
+    show_front(&input, longest);
+    show_front(&input, longest + 1);
 }
 
 // Each input behind the number of its bytes.

@@ -1,0 +1,27 @@
+use mathlib.Core.Path.{sym}
+use lib.Seq.{length-take-le}
+use borrow.Author.Needs.{needs}
+use Rattle.check_settings.proofs.show_front.Statement.{statement}
+use Rattle.check_settings.proofs.show_front.Tie as tie
+use Rattle.check_settings.proofs.show_front.Reads as reads
+use Rattle.check_settings.proofs.show_front.Lts as lts
+use Rattle.check_settings.proofs.show.Reads as show-reads
+
+-- src/main.rt:47:14
+slice-aggregate-show : tie.Need-slice-aggregate-show
+slice-aggregate-show c = sym (length-take-le _ _ (c .before .if1 .taken))
+
+-- src/main.rt:47:9
+show-requires : tie.Need-show-requires
+show-requires c κs = search needs
+
+-- src/main.rt:45:1
+returns : tie.Need-returns
+returns c = search needs
+
+-- src/main.rt:45:1
+returns-2 : tie.Need-returns-2
+returns-2 c = search needs
+
+pub show-front-spec : {M : Type 1} → statement M
+show-front-spec = tie.close (tie.spec slice-aggregate-show show-requires returns returns-2)
