@@ -25,18 +25,18 @@ fn put(input: &mut [u8], at: usize, v: usize) -> usize
     at + 2
 }
 
-// The count 1,024 and its entries: b, and then each time a more, mod 1,024; a permutation where a is odd. The answer is its
-// length.
+// The count 1,024 and its entries: v - 1 for v = b, and then each time a more, mod 1,025. Where a = b has no divisor in common
+// with 1,025 they are a permutation. The answer is its length.
 fn large(input: &mut [u8], a: usize, b: usize) -> usize
-    requires { ⌜ (2051 ≤ length (now input)) × (a ≤ 1024) × (b < 1024) ⌝ }
+    requires { ⌜ (2051 ≤ length (now input)) × (a ≤ 1024) × (b ≤ 1024) ⌝ }
     ensures { λ r. ⌜ (1 ≤ r) × (r ≤ 2050) ⌝ }
 {
     let mut at = put(input, 0, 1024);
     let mut v = b;
     let mut i = 0usize;
     while i < 1024 {
-        at = put(input, at, v);
-        v = (v + a) % 1024;
+        at = put(input, at, (v + 1024) % 1025);
+        v = (v + a) % 1025;
         i += 1;
     }
     at
@@ -49,17 +49,17 @@ fn show_front(input: &[u8], n: usize) {
     }
 }
 
-// 1,024 places: an order, a byte more and a byte less; each entry twice; the longest input, of entries in two bytes, and a
-// byte more.
+// 1,024 places: an order, a byte more and a byte less; entries that come again; the longest input, of entries in two bytes,
+// and a byte more.
 fn show_large() {
     let mut input = [0u8; 2051];
-    let end = large(&mut input, 389, 77);
+    let end = large(&mut input, 389, 389);
     show_front(&input, end);
     show_front(&input, end + 1);
     show_front(&input, end - 1);
-    let twice = large(&mut input, 2, 1);
-    show_front(&input, twice);
-    let longest = large(&mut input, 0, 1023);
+    let again = large(&mut input, 41, 41);
+    show_front(&input, again);
+    let longest = large(&mut input, 0, 1024);
     show_front(&input, longest);
     show_front(&input, longest + 1);
 }

@@ -9,44 +9,38 @@ use Rattle.check_settings.proofs.large.Lts as lts
 use Rattle.check_settings.proofs.put.Reads as put-reads
 
 abbrev Inv-loop : tie.InvT-loop
-Inv-loop input₀ a b at₀ v₀ i₀ input at v i = (length input ≡ length input₀) × (1 ≤ at) × (at ≤ 2 + 2 * i) × (v < 1024) × (i ≤ 1024)
+Inv-loop input₀ a b at₀ v₀ i₀ input at v i = (length input ≡ length input₀) × (1 ≤ at) × (at ≤ 2 + 2 * i) × (v ≤ 1024) × (i ≤ 1024)
 
 abbrev μ-loop : tie.MeasureT-loop
 μ-loop input₀ a b at₀ v₀ i₀ input at v i = 1024 - i
 
--- src/main.rt:34:9
 put-requires : tie.Need-put-requires Inv-loop μ-loop
 put-requires c κs = search needs
 
--- src/main.rt:37:5
 loop-holds : tie.Need-loop-holds Inv-loop μ-loop
 loop-holds c = search needs
 
--- src/main.rt:38:9
+add-put : tie.Need-add-put Inv-loop μ-loop
+add-put c = search needs
+
 put-requires-2 : tie.Need-put-requires-2 Inv-loop μ-loop
 put-requires-2 c κs = search needs
 
--- src/main.rt:39:14
 add-v : tie.Need-add-v Inv-loop μ-loop
 add-v c = search needs
 
--- src/main.rt:40:9
 add-i : tie.Need-add-i Inv-loop μ-loop
 add-i c = search needs
 
--- src/main.rt:37:5
 loop-less : tie.Need-loop-less Inv-loop μ-loop
 loop-less c = search needs
 
--- src/main.rt:37:5
 loop-again : tie.Need-loop-again Inv-loop μ-loop
 loop-again c = search needs
 
--- src/main.rt:30:1
 same-length : tie.Need-same-length Inv-loop μ-loop
 same-length c = search needs
 
--- src/main.rt:30:1
 returns : tie.Need-returns Inv-loop μ-loop
 returns c = search needs
 
@@ -58,6 +52,7 @@ large-spec =
     μ-loop
     put-requires
     loop-holds
+    add-put
     put-requires-2
     add-v
     add-i

@@ -14,55 +14,42 @@ Inv-loop inputs at₀ at = Unit {0}
 abbrev μ-loop : tie.MeasureT-loop
 μ-loop inputs at₀ at = length inputs - at
 
--- src/main.rt:59:5
 loop-holds : tie.Need-loop-holds Inv-loop μ-loop
 loop-holds c = tt
 
--- src/main.rt:60:20
 add-from : tie.Need-add-from Inv-loop μ-loop
 add-from c = search needs
 
--- src/main.rt:61:30
 shared-slice-read-wide : tie.Need-shared-slice-read-wide Inv-loop μ-loop
 shared-slice-read-wide c = search needs
 
--- src/main.rt:61:25
 wide-requires : tie.Need-wide-requires Inv-loop μ-loop
 wide-requires c κs = search needs
 
--- src/main.rt:61:18
 add-to : tie.Need-add-to Inv-loop μ-loop
 add-to c = search needs
 
--- src/main.rt:63:13
 returns : tie.Need-returns Inv-loop μ-loop
 returns c = search needs
 
--- src/main.rt:65:14
 sub-show : tie.Need-sub-show Inv-loop μ-loop
 sub-show c = search needs
 
--- src/main.rt:65:14
 part-show-start : tie.Need-part-show-start Inv-loop μ-loop
 part-show-start c = search needs
 
--- src/main.rt:65:14
 part-show-end : tie.Need-part-show-end Inv-loop μ-loop
 part-show-end c = search needs
 
--- src/main.rt:65:9
 show-requires : tie.Need-show-requires Inv-loop μ-loop
 show-requires c κs = search needs
 
--- src/main.rt:59:5
 loop-less : tie.Need-loop-less Inv-loop μ-loop
 loop-less c = search needs
 
--- src/main.rt:59:5
 loop-again : tie.Need-loop-again Inv-loop μ-loop
 loop-again c = tt
 
--- src/main.rt:57:1
 returns-2 : tie.Need-returns-2 Inv-loop μ-loop
 returns-2 c = search needs
 

@@ -11,34 +11,27 @@ use Rattle.report.proofs.put_lines.Lts as lts
 use Rattle.lines.proofs.put_number.Reads as put-number-reads
 use Rattle.lines.proofs.put_setting.Reads as put-setting-reads
 
--- src/lib.rt:86:32
 slice-aggregate-put-number : tie.Need-slice-aggregate-put-number
 slice-aggregate-put-number c = search needs
 
--- src/lib.rt:86:9
 put-number-requires : tie.Need-put-number-requires
 unfolding settingLines
 put-number-requires c κs = room-first (c .before .before .before .before .args .out .now) 0 (line "places " (decimal (c .before .before .before .before .args .n))) (line "setting " (bitsText (c .before .before .before .before .args .bits .now)) ++ line "entries " (decimal (c .before .before .before .before .args .entries))) (omega (arith, c .before .before .before .before .pre))
 
--- src/lib.rt:87:9
 put-setting-requires : tie.Need-put-setting-requires
 unfolding settingLines
 put-setting-requires c κs = room-second (line "setting " (bitsText (c .before .before .before .before .before .before .before .before .args .bits .now))) (line "entries " (decimal (c .before .before .before .before .before .before .before .before .args .entries))) (c .before .before .before .put-number .ensures) (omega (arith, c .before .before .before .before .before .before .before .before .pre))
 
--- src/lib.rt:88:24
 slice-aggregate-put-number-2 : tie.Need-slice-aggregate-put-number-2
 slice-aggregate-put-number-2 c = search needs
 
--- src/lib.rt:88:5
 put-number-requires-2 : tie.Need-put-number-requires-2
 unfolding settingLines
 put-number-requires-2 c κs = room-third (line "setting " (bitsText (c .before .before .before .before .before .before .before .before .before .before .before .before .before .args .bits .now))) (line "entries " (decimal (c .before .before .before .before .before .before .before .before .before .before .before .before .before .args .entries))) (c .before .before .before .before .before .before .before .before .put-number .ensures) (omega (arith, c .before .before .before .before .before .before .before .before .before .before .before .before .before .pre)) (c .before .before .before .before .put-setting .ensures)
 
--- src/lib.rt:82:1
 same-length : tie.Need-same-length
 same-length c = search needs
 
--- src/lib.rt:82:1
 returns : tie.Need-returns
 unfolding settingLines
 returns c = put-three _ _ (c .before .before .before .before .before .before .before .before .before .before .before .put-number .ensures) (omega (arith, c .before .before .before .before .before .before .before .before .before .before .before .before .before .before .before .before .pre)) (c .before .before .before .before .before .before .before .put-setting .ensures) (c .before .before .put-number2 .ensures)

@@ -15,39 +15,30 @@ use Rattle.lines.proofs.put_refusal.Reads as put-refusal-reads
 use Rattle.orders.proofs.order_setting.Reads as order-setting-reads
 use Rattle.report.proofs.put_lines.Reads as put-lines-reads
 
--- src/lib.rt:23:9
 order-setting-requires : tie.Need-order-setting-requires
 order-setting-requires c κs = search needs
 
--- src/lib.rt:25:9
 put-refusal-requires : tie.Need-put-refusal-requires
 put-refusal-requires c κs = omega (arith, refusal-fits (c .before .before .before .order-setting .result .number) (c .before .before .before .order-setting .result .place) (omega arith) (omega arith), c .before .before .before .before .before .before .good)
 
--- src/lib.rt:25:9
 returns : tie.Need-returns
 returns c = prints _ (prints-refusal _ _ (c .before .before .before .before .order-setting .ensures) (c .before .before .if1 .taken)) (c .put-refusal .ensures)
 
--- src/lib.rt:28:9
 switches-requires : tie.Need-switches-requires
 switches-requires c κs = places-few _ _ (c .before .before .order-setting .ensures) (c .if1 .left)
 
--- src/lib.rt:29:23
 array-share-prefix-bits : tie.Need-array-share-prefix-bits
 array-share-prefix-bits c = bits-there _ _ (c .before .before .before .before .order-setting .ensures) (c .before .before .if1 .left) (c .before .switches .ensures .0)
 
--- src/lib.rt:29:23
 slice-aggregate-put-lines : tie.Need-slice-aggregate-put-lines
 slice-aggregate-put-lines c = sym (length-take-le _ (c .before .before .before .before .before .order-setting .last .1 .0) (bits-there _ _ (c .before .before .before .before .before .order-setting .ensures) (c .before .before .before .if1 .left) (c .before .before .switches .ensures .0)))
 
--- src/lib.rt:29:35
 entries-requires : tie.Need-entries-requires
 entries-requires c κs = places-few _ _ (c .before .before .before .before .before .order-setting .ensures) (c .before .before .before .if1 .left)
 
--- src/lib.rt:29:5
 put-lines-requires : tie.Need-put-lines-requires
 put-lines-requires c κs = omega (arith, lines-fit (c .before .before .before .before .before .before .order-setting .result .count) (take (c .before .before .before .switches .result) (c .before .before .before .before .before .before .order-setting .last .1 .0)) (c .entries .result) (places-few _ _ (c .before .before .before .before .before .before .order-setting .ensures) (c .before .before .before .before .if1 .left)) (omega (arith, length-take (c .before .before .before .switches .result) (c .before .before .before .before .before .before .order-setting .last .1 .0), c .before .before .before .switches .ensures .1)) (c .entries .ensures .1), c .before .before .before .before .before .before .before .before .before .good)
 
--- src/lib.rt:19:1
 returns-2 : tie.Need-returns-2
 returns-2 c = prints _ (prints-lines _ _ (c .before .before .before .before .before .before .before .order-setting .ensures) (c .before .before .before .before .before .if1 .left) (c .before .before .before .before .switches .ensures .0) (c .before .entries .ensures .0)) (c .put-lines .ensures)
 

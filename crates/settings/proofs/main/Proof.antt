@@ -10,39 +10,30 @@ use Rattle.io.proofs.read_full.Reads as read-full-reads
 use Rattle.io.proofs.write_all.Reads as write-all-reads
 use Rattle.report.proofs.settings_text.Reads as settings-text-reads
 
--- src/main.rt:7:41
 slice-aggregate-read-full : tie.Need-slice-aggregate-read-full
 slice-aggregate-read-full c = search needs
 
--- src/main.rt:7:9
 read-full-requires : tie.Need-read-full-requires
 read-full-requires c κs = search needs
 
--- src/main.rt:9:37
 array-share-prefix-input : tie.Need-array-share-prefix-input
 array-share-prefix-input c = search needs
 
--- src/main.rt:9:37
 slice-aggregate-settings-text : tie.Need-slice-aggregate-settings-text
 slice-aggregate-settings-text c = search needs
 
--- src/main.rt:9:9
 settings-text-requires : tie.Need-settings-text-requires
 settings-text-requires c κs = search needs
 
--- src/main.rt:10:34
 array-share-prefix-text : tie.Need-array-share-prefix-text
 array-share-prefix-text c = text-fits _ _ (c .settings-text .ensures)
 
--- src/main.rt:10:34
 slice-aggregate-write-all : tie.Need-slice-aggregate-write-all
 slice-aggregate-write-all c = sym (length-take-le _ _ (text-fits _ _ (c .before .settings-text .ensures)))
 
--- src/main.rt:10:5
 write-all-requires : tie.Need-write-all-requires
 write-all-requires c κs = search needs
 
--- src/main.rt:5:1
 returns : tie.Need-returns
 returns c = search needs
 
