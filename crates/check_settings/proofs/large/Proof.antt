@@ -1,12 +1,11 @@
+-- `check_settings::large` meets its contract.
+-- Assumes nothing.
 use mathlib.Core.Path.{_≡_}
 use lib.ListN.{length}
-use Prim.Native.Nat.{_+_, _*_, _-_, _≤_, _<_}
+use Prim.Native.Nat.{_+_, _*_, _-_, _≤_}
 use borrow.Author.Needs.{needs}
 use Rattle.check_settings.proofs.large.Statement.{statement}
 use Rattle.check_settings.proofs.large.Tie as tie
-use Rattle.check_settings.proofs.large.Reads as reads
-use Rattle.check_settings.proofs.large.Lts as lts
-use Rattle.check_settings.proofs.put.Reads as put-reads
 
 abbrev Inv-loop : tie.InvT-loop
 Inv-loop input₀ a b at₀ v₀ i₀ input at v i = (length input ≡ length input₀) × (1 ≤ at) × (at ≤ 2 + 2 * i) × (v ≤ 1024) × (i ≤ 1024)

@@ -1,10 +1,10 @@
+-- `check_settings::put` meets its contract.
+-- Assumes nothing.
 use lib.ListN.{length-set}
 use native.Mathlib.Omega.{arith}
 use borrow.Author.Needs.{needs}
 use Rattle.check_settings.proofs.put.Statement.{statement}
 use Rattle.check_settings.proofs.put.Tie as tie
-use Rattle.check_settings.proofs.put.Reads as reads
-use Rattle.check_settings.proofs.put.Lts as lts
 
 cast-input : tie.Need-cast-input
 cast-input c = search needs

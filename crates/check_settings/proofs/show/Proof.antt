@@ -1,13 +1,11 @@
+-- `check_settings::show` meets its contract.
+-- Assumes nothing.
 use mathlib.Core.Path.{sym}
 use lib.Seq.{length-take-le}
 use Rattle.report.proofs.Printing.{text-fits}
 use borrow.Author.Needs.{needs}
 use Rattle.check_settings.proofs.show.Statement.{statement}
 use Rattle.check_settings.proofs.show.Tie as tie
-use Rattle.check_settings.proofs.show.Reads as reads
-use Rattle.check_settings.proofs.show.Lts as lts
-use Rattle.io.proofs.write_all.Reads as write-all-reads
-use Rattle.report.proofs.settings_text.Reads as settings-text-reads
 
 settings-text-requires : tie.Need-settings-text-requires
 settings-text-requires c κs = search needs

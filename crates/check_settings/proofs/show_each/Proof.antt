@@ -1,12 +1,10 @@
+-- `check_settings::show_each` meets its contract.
+-- Assumes nothing.
 use Prim.Native.Nat.{_-_}
 use lib.ListN.{length}
 use borrow.Author.Needs.{needs}
 use Rattle.check_settings.proofs.show_each.Statement.{statement}
 use Rattle.check_settings.proofs.show_each.Tie as tie
-use Rattle.check_settings.proofs.show_each.Reads as reads
-use Rattle.check_settings.proofs.show_each.Lts as lts
-use Rattle.check_settings.proofs.show.Reads as show-reads
-use Rattle.check_settings.proofs.wide.Reads as wide-reads
 
 abbrev Inv-loop : tie.InvT-loop
 Inv-loop inputs at₀ at = Unit {0}

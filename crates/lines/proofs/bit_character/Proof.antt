@@ -1,8 +1,8 @@
+-- `lines::bit_character` meets its contract.
+-- Assumes nothing.
 use Rattle.lines.proofs.Lines.{bit-one, bit-other}
 use Rattle.lines.proofs.bit_character.Statement.{statement}
 use Rattle.lines.proofs.bit_character.Tie as tie
-use Rattle.lines.proofs.bit_character.Reads as reads
-use Rattle.lines.proofs.bit_character.Lts as lts
 
 returns : tie.Need-returns
 returns c = bit-one _ (c .if1 .taken)

@@ -1,3 +1,5 @@
+-- `lines::put_bits` meets its contract.
+-- Assumes nothing.
 use mathlib.Core.Path.{sym, _∙_}
 use native.Mathlib.Omega.{arith}
 use Prim.Native.Nat.{_-_}
@@ -7,10 +9,6 @@ use Rattle.lines.specs.Text.{characters}
 use Rattle.lines.proofs.Lines.{Laying, lay-starts, lay-more, lay-ends, length-characters, character-at, bits-none, bits-some, bits-long}
 use Rattle.lines.proofs.put_bits.Statement.{statement}
 use Rattle.lines.proofs.put_bits.Tie as tie
-use Rattle.lines.proofs.put_bits.Reads as reads
-use Rattle.lines.proofs.put_bits.Lts as lts
-use Rattle.lines.proofs.bit_character.Reads as bit-character-reads
-use Rattle.lines.proofs.put_text.Reads as put-text-reads
 
 abbrev Inv-loop : tie.InvT-loop
 Inv-loop out₀ at bits i₀ out i = Laying (characters bits) out₀ at out i

@@ -1,14 +1,11 @@
+-- `lines::put_number` meets its contract.
+-- Assumes nothing.
 use mathlib.Core.List.{_++_}
 use Rattle.lines.specs.Text.{text, decimal}
-use native.Mathlib.Omega.{arith}
 use Rattle.lines.proofs.Lines.{room-first, room-second, room-third, put-three}
 use borrow.Author.Needs.{needs}
 use Rattle.lines.proofs.put_number.Statement.{statement}
 use Rattle.lines.proofs.put_number.Tie as tie
-use Rattle.lines.proofs.put_number.Reads as reads
-use Rattle.lines.proofs.put_number.Lts as lts
-use Rattle.lines.proofs.put_decimal.Reads as put-decimal-reads
-use Rattle.lines.proofs.put_text.Reads as put-text-reads
 
 put-text-requires : tie.Need-put-text-requires
 put-text-requires c κs = room-first (c .before .before .before .args .out .now) (c .before .before .before .args .at) (c .before .before .before .args .label .now) (decimal (c .before .before .before .args .v) ++ text "\n") (c .before .before .before .pre)

@@ -1,3 +1,5 @@
+-- `lines::put_refusal` meets its contract.
+-- Assumes nothing.
 use native.Mathlib.Omega.{arith}
 use mathlib.Core.List.{_++_}
 use Rattle.lines.specs.Text.{text, decimal, line, refusalLine}
@@ -5,11 +7,6 @@ use Rattle.lines.proofs.Lines.{room-first, room-second, room-third, put
 use borrow.Author.Needs.{needs}
 use Rattle.lines.proofs.put_refusal.Statement.{statement}
 use Rattle.lines.proofs.put_refusal.Tie as tie
-use Rattle.lines.proofs.put_refusal.Reads as reads
-use Rattle.lines.proofs.put_refusal.Lts as lts
-use Rattle.lines.proofs.put_decimal.Reads as put-decimal-reads
-use Rattle.lines.proofs.put_number.Reads as put-number-reads
-use Rattle.lines.proofs.put_text.Reads as put-text-reads
 
 slice-aggregate-put-text : tie.Need-slice-aggregate-put-text
 slice-aggregate-put-text c = search needs

@@ -1,13 +1,11 @@
+-- `lines::put_setting` meets its contract.
+-- Assumes nothing.
 use mathlib.Core.List.{_++_}
 use Rattle.lines.specs.Text.{text, bitsText}
 use Rattle.lines.proofs.Lines.{room-first, room-second, room-third, put-three}
 use borrow.Author.Needs.{needs}
 use Rattle.lines.proofs.put_setting.Statement.{statement}
 use Rattle.lines.proofs.put_setting.Tie as tie
-use Rattle.lines.proofs.put_setting.Reads as reads
-use Rattle.lines.proofs.put_setting.Lts as lts
-use Rattle.lines.proofs.put_bits.Reads as put-bits-reads
-use Rattle.lines.proofs.put_text.Reads as put-text-reads
 
 slice-aggregate-put-text : tie.Need-slice-aggregate-put-text
 slice-aggregate-put-text c = search needs

@@ -1,3 +1,5 @@
+-- `orders::order_setting` meets its contract.
+-- Assumes nothing.
 use mathlib.Core.Path.{sym}
 use mathlib.Core.List.{[]}
 use native.Mathlib.Omega.{arith}
@@ -7,11 +9,6 @@ use Rattle.orders.proofs.Asking.{form-refused, places-few, then-set}
 use borrow.Author.Needs.{needs}
 use Rattle.orders.proofs.order_setting.Statement.{statement}
 use Rattle.orders.proofs.order_setting.Tie as tie
-use Rattle.orders.proofs.order_setting.Reads as reads
-use Rattle.orders.proofs.order_setting.Lts as lts
-use Rattle.numbers.proofs.answer.Reads as answer-reads
-use Rattle.orders.proofs.read_order.Reads as read-order-reads
-use Rattle.orders.proofs.set.Reads as set-reads
 
 slice-aggregate-read-order : tie.Need-slice-aggregate-read-order
 slice-aggregate-read-order c = search needs

