@@ -1,21 +1,18 @@
 // The calls for programs in other languages: the C interface of include/lomuveran.h. A slice crosses as a pointer and a
-// length. Each export is one call of the crate that does the work, and its promise is that crate's own definition of the call.
+// length. Each export makes one call of the crate that does the work, and its promise is that crate's own definition of the
+// call.
 use numbers::ReadNumber;
 use permutation::Permutation;
 use permutation::Reply;
 ghost use mathlib.Core.Path.{_≡_};
-ghost use mathlib.Core.List.{[], _∷_};
-ghost use lib.Dec.{leb};
 ghost use lib.ListN.{length, getD};
-ghost use Rattle.answers.specs.Questions.{ask, firstNo};
-ghost use Rattle.answers.specs.Outcomes.{answerOf, outcome, logged};
+ghost use Rattle.answers.specs.Outcomes.{outcome, logged};
 ghost use Rattle.apply.specs.Calls.{applyCall, inverseCall};
 ghost use Rattle.codec.specs.Calls.{writeSheet, readSheet};
 ghost use Rattle.control.specs.Calls.{setCall};
 ghost use Rattle.counts.specs.Counts.{W, E};
 ghost use Rattle.numbers.specs.Numbers.{numberAt};
 ghost use Rattle.numbers.specs.Reading.{meaning};
-ghost use Rattle.permutation.specs.Records.{identityCall, fromListCall, exchangeCall, combineCall, fixedPointsCall};
 ghost use Rattle.permutation.specs.Records as records;
 ghost use Rattle.shuffle.specs.Shuffled.{shuffleCall};
 ghost use Rattle.capi.specs.Crossing.{answerIn, numberIn, recordIn, spread, lent, counted};
@@ -213,7 +210,7 @@ fn give(reply: Reply, entries: &mut [u16]) -> CAnswer
 // 01: fresh, of as many places as there are entries.
 #[no_mangle]
 pub extern "C" fn lomuveran_permutation_identity(entries: &mut [u16]) -> CAnswer
-    ensures { λ r. ⌜ outcome (answerIn r) (now (entries .exit)) ≡ lent (identityCall (length (now (entries .entry)))) (now (entries .entry)) ⌝ }
+    ensures { λ r. ⌜ outcome (answerIn r) (now (entries .exit)) ≡ lent (records.identityCall (length (now (entries .entry)))) (now (entries .entry)) ⌝ }
 {
     give(Permutation::identity(entries.len()), entries)
 }
@@ -221,7 +218,7 @@ pub extern "C" fn lomuveran_permutation_identity(entries: &mut [u16]) -> CAnswer
 // 01: from a list. The record is the list itself, as lent.
 #[no_mangle]
 pub extern "C" fn lomuveran_permutation_from_list(list: &[u16]) -> CAnswer
-    ensures { λ r. ⌜ answerIn r ≡ fromListCall (now (list .entry)) .answer ⌝ }
+    ensures { λ r. ⌜ answerIn r ≡ records.fromListCall (now (list .entry)) .answer ⌝ }
 {
     let reply = Permutation::from_list(list);
     tell(reply.answer)
@@ -229,7 +226,7 @@ pub extern "C" fn lomuveran_permutation_from_list(list: &[u16]) -> CAnswer
 
 #[no_mangle]
 pub extern "C" fn lomuveran_permutation_exchange(entries: &mut [u16], i: usize, j: usize) -> CAnswer
-    ensures { λ r. ⌜ outcome (answerIn r) (now (entries .exit)) ≡ lent (exchangeCall (recordIn (now (entries .entry))) i j) (now (entries .entry)) ⌝ }
+    ensures { λ r. ⌜ outcome (answerIn r) (now (entries .exit)) ≡ lent (records.exchangeCall (recordIn (now (entries .entry))) i j) (now (entries .entry)) ⌝ }
 {
     let p = record_of(entries);
     give(p.exchange(i, j), entries)
@@ -238,7 +235,7 @@ pub extern "C" fn lomuveran_permutation_exchange(entries: &mut [u16], i: usize, 
 // First, then second, into first.
 #[no_mangle]
 pub extern "C" fn lomuveran_permutation_combine(first: &mut [u16], second: &[u16]) -> CAnswer
-    ensures { λ r. ⌜ outcome (answerIn r) (now (first .exit)) ≡ lent (combineCall (recordIn (now (first .entry))) (recordIn (now (second .entry)))) (now (first .entry)) ⌝ }
+    ensures { λ r. ⌜ outcome (answerIn r) (now (first .exit)) ≡ lent (records.combineCall (recordIn (now (first .entry))) (recordIn (now (second .entry)))) (now (first .entry)) ⌝ }
 {
     let p = record_of(first);
     give(p.combine(record_of(second)), first)
@@ -255,7 +252,7 @@ pub extern "C" fn lomuveran_permutation_inverse(entries: &mut [u16]) -> CAnswer
 // The number of entries that stay home, as the count.
 #[no_mangle]
 pub extern "C" fn lomuveran_permutation_fixed_points(entries: &[u16]) -> CAnswer
-    ensures { λ r. ⌜ answerIn r ≡ fixedPointsCall (recordIn (now (entries .entry))) .answer ⌝ }
+    ensures { λ r. ⌜ answerIn r ≡ records.fixedPointsCall (recordIn (now (entries .entry))) .answer ⌝ }
 {
     let p = record_of(entries);
     let reply = p.fixed_points();
