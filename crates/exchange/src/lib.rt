@@ -32,13 +32,13 @@ fn exchange_bytes(blocks: &mut [u8], width: usize, a: usize, gap: usize, s: u8)
     }
 }
 
-// The same. A width of 64 bytes is told apart only so that its compiled loop has a known length: no remainder, no set-up.
+// The same. A width of whole 32-byte parts is told apart only so that its compiled loop has no remainder.
 fn exchange(blocks: &mut [u8], width: usize, a: usize, gap: usize, s: u8)
     requires { ⌜ (s < 2) × (width ≤ gap) × (a + gap + width ≤ length (now blocks)) ⌝ }
     ensures { λ _. ⌜ now (blocks .exit) ≡ bytesSwitched a gap s width (now (blocks .entry)) ⌝ }
 {
-    if width == 64 {
-        exchange_bytes(blocks, 64, a, gap, s);
+    if width % 32 == 0 {
+        exchange_bytes(blocks, width / 32 * 32, a, gap, s);
     } else {
         exchange_bytes(blocks, width, a, gap, s);
     }
@@ -71,6 +71,9 @@ pub fn layer(
     requires { ⌜ Lent width m o c e (now blocks) (now bits) (now log) × (c ≤ down m) ⌝ }
     ensures { λ _. ⌜ Ran width m (layer [] paper (up m) c (drop e (now (bits .entry)))) (layerEntries paper (placed o m) c) e (now (blocks .entry)) (now (log .entry)) (now (blocks .exit)) (now (log .exit)) ⌝ }
 {
+    if width < 1 { // never so: it tells the compiler that each exchange has bytes
+        return;
+    }
     let k = (m + 1) / 2;
     let gap = k * width;
     let mut i = 0;
@@ -98,6 +101,9 @@ pub fn layer_back(
     requires { ⌜ Lent width m o c e (now blocks) (now bits) (now log) × (c ≤ down m) ⌝ }
     ensures { λ _. ⌜ Ran width m (layerBack [] paper (up m) c (bitsBack (now (bits .entry)) e c)) (reverse (layerEntries paper (placed o m) c)) e (now (blocks .entry)) (now (log .entry)) (now (blocks .exit)) (now (log .exit)) ⌝ }
 {
+    if width < 1 { // as in `layer`
+        return;
+    }
     let k = (m + 1) / 2;
     let gap = k * width;
     let first = bits.len() - (e + c);

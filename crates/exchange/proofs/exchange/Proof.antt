@@ -1,10 +1,15 @@
--- Both ways exchange the same bytes; the first knows that the width is 64.
+-- Both ways exchange the same bytes: where 32 divides the width, width / 32 * 32 is the width.
 -- Assumes nothing.
 use borrow.Author.Needs.{needs}
-use mathlib.Core.Path.{_≡_, sym, ap, _∙_}
+use native.Mathlib.Omega.{arith}
+use mathlib.Core.Path.{_≡_, ap, _∙_}
+use Prim.Native.Nat.{_/_, _*_}
 use Rattle.exchange.specs.Bytes.{bytesSwitched}
 use Rattle.exchange.proofs.exchange.Statement.{statement}
 use Rattle.exchange.proofs.exchange.Tie as tie
+
+mul-exchange-bytes : tie.Need-mul-exchange-bytes
+mul-exchange-bytes c = omega arith
 
 exchange-bytes-requires : tie.Need-exchange-bytes-requires
 exchange-bytes-requires c κs = search needs
@@ -19,8 +24,8 @@ returns : tie.Need-returns
 returns c =
     let x = c .before .before in
     let a = x .before .before .before .before .args in
-    x .exchange-bytes .ensures
-    ∙ sym (ap (λ n. bytesSwitched (a .a) (a .gap) (a .s) n (a .blocks .now)) (x .before .before .if1 .taken))
+    let whole : a .width / 32 * 32 ≡ a .width = omega arith in
+    x .exchange-bytes .ensures ∙ ap (λ n. bytesSwitched (a .a) (a .gap) (a .s) n (a .blocks .now)) whole
 
 same-length-2 : tie.Need-same-length-2
 same-length-2 c = search needs
@@ -32,6 +37,7 @@ pub exchange-spec : {M : Type 1} → statement M
 exchange-spec =
     tie.close
     (tie.spec
+    mul-exchange-bytes
     exchange-bytes-requires
     exchange-bytes-requires-2
     same-length
