@@ -80,6 +80,7 @@ pub lend : {width m o e count : ℕ} {bytes bits log : List ℕ} → Lent width 
 lend lent m′ o′ e′ count′ bytes′ log′ places whole enough long =
     record {
       places = omega (arith, lent .places);
+      wide = lent .wide;
       narrow = lent .narrow;
       whole = sym whole;
       enough = omega (arith, lent .enough);

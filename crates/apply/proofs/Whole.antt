@@ -68,7 +68,7 @@ module _ (n width : ℕ) (b bits l : List ℕ) where
       pub lent : Lent width n 0 (W n) 0 b bits l
       lent =
           let f = fits in
-          record { places = omega arith; narrow = f .high; whole = sym (f .whole); enough = omega arith; room = omega arith; settings = f .settings }
+          record { places = omega arith; wide = f .low; narrow = f .high; whole = sym (f .whole); enough = omega arith; room = omega arith; settings = f .settings }
 
       module _ {b′ l′ : List ℕ} {count : ℕ} {a : Answer} (reports : a ≡ accepted count) (counted : count ≡ 0 + W n) (kept : length b′ ≡ length b) where
         pub apply-settles : Ran width n (forward [] paper (network n) (drop 0 bits)) (switches paper (network n) (λ i. 0 + i)) 0 b l b′ l′

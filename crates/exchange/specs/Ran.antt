@@ -15,6 +15,7 @@ use Rattle.network.specs.Log.{Entry, words}
 -- number e on: m blocks, and bits and log for e + count entries.
 pub record Lent (width m o count e : ℕ) (bytes bits log : List ℕ) : Type 0 where
   pub places : o + m ≤ 1024
+  pub wide : 1 ≤ width
   pub narrow : width ≤ 256
   pub whole : m * width ≡ length bytes
   pub enough : e + count ≤ length bits

@@ -15,7 +15,7 @@ ghost use Rattle.exchange.specs.Ran.{Lent, Ran, placed, bitsBack};
 
 // Exchanges `width` bytes from a on with those that lie `gap` further on where the bit s is 1: each byte gains or loses the
 // masked difference of the two. The upper one is read and written first: that spares the compiled loop a comparison.
-fn exchange(blocks: &mut [u8], width: usize, a: usize, gap: usize, s: u8)
+fn exchange_bytes(blocks: &mut [u8], width: usize, a: usize, gap: usize, s: u8)
     requires { ⌜ (s < 2) × (width ≤ gap) × (a + gap + width ≤ length (now blocks)) ⌝ }
     ensures { λ _. ⌜ now (blocks .exit) ≡ bytesSwitched a gap s width (now (blocks .entry)) ⌝ }
 {
@@ -29,6 +29,18 @@ fn exchange(blocks: &mut [u8], width: usize, a: usize, gap: usize, s: u8)
         blocks[i + gap] = std::num::wrapping_sub_u8(y, d);
         blocks[i] = std::num::wrapping_add_u8(x, d);
         j += 1;
+    }
+}
+
+// The same. A width of whole 32-byte parts is told apart only so that its compiled loop has no remainder.
+fn exchange(blocks: &mut [u8], width: usize, a: usize, gap: usize, s: u8)
+    requires { ⌜ (s < 2) × (width ≤ gap) × (a + gap + width ≤ length (now blocks)) ⌝ }
+    ensures { λ _. ⌜ now (blocks .exit) ≡ bytesSwitched a gap s width (now (blocks .entry)) ⌝ }
+{
+    if width % 32 == 0 {
+        exchange_bytes(blocks, width / 32 * 32, a, gap, s);
+    } else {
+        exchange_bytes(blocks, width, a, gap, s);
     }
 }
 
@@ -59,6 +71,9 @@ pub fn layer(
     requires { ⌜ Lent width m o c e (now blocks) (now bits) (now log) × (c ≤ down m) ⌝ }
     ensures { λ _. ⌜ Ran width m (layer [] paper (up m) c (drop e (now (bits .entry)))) (layerEntries paper (placed o m) c) e (now (blocks .entry)) (now (log .entry)) (now (blocks .exit)) (now (log .exit)) ⌝ }
 {
+    if width < 1 { // never so: it tells the compiler that each exchange has bytes
+        return;
+    }
     let k = (m + 1) / 2;
     let gap = k * width;
     let mut i = 0;
@@ -86,6 +101,9 @@ pub fn layer_back(
     requires { ⌜ Lent width m o c e (now blocks) (now bits) (now log) × (c ≤ down m) ⌝ }
     ensures { λ _. ⌜ Ran width m (layerBack [] paper (up m) c (bitsBack (now (bits .entry)) e c)) (reverse (layerEntries paper (placed o m) c)) e (now (blocks .entry)) (now (log .entry)) (now (blocks .exit)) (now (log .exit)) ⌝ }
 {
+    if width < 1 { // as in `layer`
+        return;
+    }
     let k = (m + 1) / 2;
     let gap = k * width;
     let first = bits.len() - (e + c);

@@ -20,22 +20,25 @@ Inv-loop blocks₀ width m c o bits log₀ e k gap i₀ blocks log i =
 abbrev μ-loop : tie.MeasureT-loop
 μ-loop blocks₀ width m c o bits log₀ e k gap i₀ blocks log i = c - i
 
+returns : tie.Need-returns Inv-loop μ-loop
+returns c = absurd (omega (arith, c .before .before .before .before .pre .0 .wide))
+
 add-k : tie.Need-add-k Inv-loop μ-loop
 add-k c = omega arith
 
 mul-gap : tie.Need-mul-gap Inv-loop μ-loop
 mul-gap c =
-    omega (arith, half-fits (c .before .before .before .args .width) (c .before .before .before .args .m))
+    omega (arith, half-fits (c .before .before .before .before .args .width) (c .before .before .before .before .args .m))
 
 loop-holds : tie.Need-loop-holds Inv-loop μ-loop
 loop-holds c =
-    let a = c .before .before .before .args in
+    let a = c .before .before .before .before .args in
     ((omega arith, (refl, refl)), first-none (a .width) (a .m) (a .o) (a .bits .now) (a .e) (a .blocks .now) (a .log .now))
 
 mul-exchange : tie.Need-mul-exchange Inv-loop μ-loop
 mul-exchange c =
     let l = c .before .before in
-    let a = l .before .before .before .before .args in
+    let a = l .before .before .before .before .before .args in
     omega (arith, within (a .width) (a .m) (l .loop .i) (length (a .blocks .now)) (omega arith) (omega arith))
 
 add-exchange : tie.Need-add-exchange Inv-loop μ-loop
@@ -48,7 +51,7 @@ exchange-requires : tie.Need-exchange-requires Inv-loop μ-loop
 unfolding Bits
 exchange-requires c κs =
     let l = c .before .before .before in
-    let s = l .before .before .before .before in
+    let s = l .before .before .before .before .before in
     let a = s .args in
     let x = within (a .width) (a .m) (l .loop .i) (length (a .blocks .now)) (omega arith) (omega arith) in
     (s .pre .0 .settings (a .e + l .loop .i), x .gap, omega arith)
@@ -79,7 +82,7 @@ loop-again c =
     let w = c .before .before in
     let x = w .before .before .before .before in
     let l = x .before .before .before .before in
-    let s = l .before .before .before .before in
+    let s = l .before .before .before .before .before in
     let a = s .args in
     let i = l .loop .i in (
       (omega arith, (x .exchange .kept .0 ∙ l .loop .inv .0 .1 .0, w .write-entry .kept .0 ∙ l .loop .inv .0 .1 .1)),
@@ -92,10 +95,10 @@ same-length c = c .before .loop .inv .0 .1 .0
 same-length-2 : tie.Need-same-length-2 Inv-loop μ-loop
 same-length-2 c = c .before .loop .inv .0 .1 .1
 
-returns : tie.Need-returns Inv-loop μ-loop
-returns c =
+returns-2 : tie.Need-returns-2 Inv-loop μ-loop
+returns-2 c =
     let l = c .before in
-    let a = l .before .before .before .before .args in
+    let a = l .before .before .before .before .before .args in
     let done : l .loop .i ≡ a .c = omega arith in
     rw done at (l .loop .inv .1)
 
@@ -105,6 +108,7 @@ layer-spec =
     (tie.spec
     Inv-loop
     μ-loop
+    returns
     add-k
     mul-gap
     loop-holds
@@ -122,4 +126,4 @@ layer-spec =
     loop-again
     same-length
     same-length-2
-    returns)
+    returns-2)

@@ -21,12 +21,15 @@ Inv-loop blocks₀ width m c o bits log₀ e k gap first i₀ a₀ to₀ blocks 
 abbrev μ-loop : tie.MeasureT-loop
 μ-loop blocks₀ width m c o bits log₀ e k gap first i₀ a₀ to₀ blocks log i a to = i
 
+returns : tie.Need-returns Inv-loop μ-loop
+returns c = absurd (omega (arith, c .before .before .before .before .pre .0 .wide))
+
 add-k : tie.Need-add-k Inv-loop μ-loop
 add-k c = omega arith
 
 mul-gap : tie.Need-mul-gap Inv-loop μ-loop
 mul-gap c =
-    omega (arith, half-fits (c .before .before .before .args .width) (c .before .before .before .args .m))
+    omega (arith, half-fits (c .before .before .before .before .args .width) (c .before .before .before .before .args .m))
 
 add-first : tie.Need-add-first Inv-loop μ-loop
 add-first c = omega arith
@@ -36,12 +39,12 @@ sub-first c = omega arith
 
 mul-a : tie.Need-mul-a Inv-loop μ-loop
 mul-a c =
-    let a = c .before .before .before .args in
-    omega (arith, small (a .width) (a .c) (omega arith) (c .before .before .before .pre .0 .narrow))
+    let a = c .before .before .before .before .args in
+    omega (arith, small (a .width) (a .c) (omega arith) (c .before .before .before .before .pre .0 .narrow))
 
 loop-holds : tie.Need-loop-holds Inv-loop μ-loop
 loop-holds c =
-    let a = c .before .before .before .args in
+    let a = c .before .before .before .before .args in
     ((omega arith, (refl, (refl, (refl, refl)))), leads-all (a .width) (a .m) (a .o) (a .bits .now) (a .e) (a .blocks .now) (a .log .now) (a .c))
 
 sub-i : tie.Need-sub-i Inv-loop μ-loop
@@ -50,12 +53,12 @@ sub-i c = omega arith
 add-a : tie.Need-add-a Inv-loop μ-loop
 add-a c =
     let l = c .before in
-    let s = l .before .before .before .before in
+    let s = l .before .before .before .before .before in
     let a = s .args in
     omega (arith, small (a .width) (l .loop .i) (omega arith) (s .pre .0 .narrow), l .loop .inv .0 .1 .1 .0)
 
 sub-a : tie.Need-sub-a Inv-loop μ-loop
-sub-a c = omega (arith, c .before .before .before .before .before .pre .0 .narrow)
+sub-a c = omega (arith, c .before .before .before .before .before .before .pre .0 .narrow)
 
 add-exchange : tie.Need-add-exchange Inv-loop μ-loop
 add-exchange c = omega arith
@@ -67,7 +70,7 @@ exchange-requires : tie.Need-exchange-requires Inv-loop μ-loop
 unfolding Bits
 exchange-requires c κs =
     let l = c .before .before .before in
-    let s = l .before .before .before .before in
+    let s = l .before .before .before .before .before in
     let a = s .args in
     let j = l .loop .i - 1 in
     let at = block-down (a .width) (l .loop .i) j (l .loop .a) (omega arith) (omega arith) (s .pre .0 .narrow) (l .loop .inv .0 .1 .1 .0) in
@@ -97,7 +100,7 @@ loop-again c =
     let w = c .before .before in
     let x = w .before .before .before .before in
     let l = x .before .before .before .before in
-    let s = l .before .before .before .before in
+    let s = l .before .before .before .before .before in
     let a = s .args in
     let j = l .loop .i - 1 in
     let at = block-down (a .width) (l .loop .i) j (l .loop .a) (omega arith) (omega arith) (s .pre .0 .narrow) (l .loop .inv .0 .1 .1 .0) in (
@@ -111,10 +114,10 @@ same-length c = c .before .loop .inv .0 .1 .1 .1 .0
 same-length-2 : tie.Need-same-length-2 Inv-loop μ-loop
 same-length-2 c = c .before .loop .inv .0 .1 .1 .1 .1
 
-returns : tie.Need-returns Inv-loop μ-loop
-returns c =
+returns-2 : tie.Need-returns-2 Inv-loop μ-loop
+returns-2 c =
     let l = c .before in
-    let a = l .before .before .before .before .args in
+    let a = l .before .before .before .before .before .args in
     leads-none (a .width) (a .m) (a .o) (a .bits .now) (a .e) (a .blocks .now) (a .log .now) (a .c) (l .loop .i) (l .loop .to) (l .loop .blocks) (l .loop .log) (omega arith) (l .loop .inv .1)
 
 pub layer-back-spec : {M : Type 1} → statement M
@@ -123,6 +126,7 @@ layer-back-spec =
     (tie.spec
     Inv-loop
     μ-loop
+    returns
     add-k
     mul-gap
     add-first
@@ -144,4 +148,4 @@ layer-back-spec =
     loop-again
     same-length
     same-length-2
-    returns)
+    returns-2)

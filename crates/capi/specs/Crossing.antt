@@ -1,0 +1,46 @@
+-- What crosses to C and back, in the crates' own definitions.
+-- Assumes nothing: these are definitions.
+use mathlib.Core.Bool.{true, false}
+use mathlib.Core.List.{List, [], _∷_}
+use Prim.Native.Nat.{ℕ}
+use lib.Dec.{eqb, leb}
+use lib.ListN.{length, getD}
+use Rattle.answers.specs.declared.Answer.{Answer}
+use Rattle.answers.specs.Questions.{ask, firstNo}
+use Rattle.answers.specs.Outcomes.{Outcome, answerOf, outcome}
+use Rattle.numbers.specs.Numbers.{NumberAnswer}
+use Rattle.permutation.specs.Permutations.{tabulate}
+use Rattle.permutation.specs.declared.Permutation.{Permutation}
+use Rattle.permutation.specs.declared.Reply.{Reply}
+use Rattle.capi.specs.declared.CAnswer.{CAnswer}
+use Rattle.capi.specs.declared.CNumber.{CNumber}
+
+-- ---- answers
+
+-- the answer that a C caller is told
+abbrev pub answerIn : CAnswer → Answer
+answerIn r = record { number = r .number; place = r .place; count = r .count }
+
+-- the number reader's
+abbrev pub numberIn : CNumber → NumberAnswer
+numberIn r = record { answer = answerIn (r .answer); value = r .value; next = r .next }
+
+-- an asking of a count of n places: question 1, then the count
+abbrev pub counted : (ℕ → ℕ) → ℕ → Answer
+counted count n = answerOf (firstNo (ask 1 0 (leb n 1024) ∷ [])) (count n)
+
+-- ---- permutations: a slice of entries is the record
+
+-- the record of lent entries: as long as they are; its 1,024 entries are theirs, and 0 past their end
+unfoldable pub recordIn : List ℕ → Permutation
+recordIn es = record { length = length es; entries = tabulate (λ i. getD es i 0) 1024 }
+
+-- n entries of a record
+abbrev pub spread : Permutation → ℕ → List ℕ
+spread p n = tabulate (λ i. getD (p .entries) i 0) n
+
+-- what a call on records comes to with the entries lent to it: accepted, they are those of the record that it gives; refused,
+-- they stay as they are
+unfoldable pub lent : Reply → List ℕ → Outcome
+lent r entries =
+    outcome (r .answer) (elim (eqb (r .answer .number) 0) [ true ↦ spread (r .permutation) (length entries) | false ↦ entries ])

@@ -1,0 +1,3 @@
+pub mod Printing
+pub mod Cut
+pub mod Cases

@@ -1,0 +1,124 @@
+/* Lomuveran: a block mixer. The C interface of the static library libcapi.a, which `rt staticlib capi` writes to
+ * target/staticlib/ (x86-64 Linux).
+ *
+ * Each call asks its questions in a fixed sequence and answers the number of the first that gets a no; success is number 0.
+ * A refused call writes nothing, an accepted one nothing beyond what is said here. Any number, any length and any contents may
+ * be handed in: what does not fit is refused.
+ *
+ * What the caller owes, as everywhere in C: a pointer is aligned, is not NULL even where the length behind it is 0, and points
+ * to as many items as that length says; what a call may write overlaps nothing else that the same call is handed. */
+#ifndef LOMUVERAN_H
+#define LOMUVERAN_H
+
+#include <stddef.h>
+#include <stdint.h>
+
+#ifdef __cplusplus
+extern "C" {
+#endif
+
+/* The most places, and what they need: bits, entries of the setter's log, bytes of a sheet. An entry is 3 words. */
+#define LOMUVERAN_MAX_PLACES 1024
+#define LOMUVERAN_MAX_WIDTH 256
+#define LOMUVERAN_MAX_SWITCHES 9217
+#define LOMUVERAN_MAX_ENTRIES 16381
+#define LOMUVERAN_MAX_SHEET 1320
+
+/* The questions, named by their no. */
+enum {
+    LOMUVERAN_ACCEPTED = 0,
+    LOMUVERAN_TOO_MANY_PLACES = 1, /* is n at most 1,024? */
+    LOMUVERAN_WIDTH = 2,           /* is the block width 1 to 256 bytes? */
+    LOMUVERAN_BLOCKS = 3,          /* do the blocks fill exactly n * width bytes? */
+    LOMUVERAN_BIT_COUNT = 4,       /* are there exactly as many bit bytes as switches (reading a sheet: at least)? */
+    LOMUVERAN_LOG = 5,             /* has the log at least 3 words for each entry due? */
+    LOMUVERAN_ENTRY = 6,           /* is each entry below n and unlike all earlier ones? place: the first bad index */
+    LOMUVERAN_BIT = 7,             /* is every bit byte 0 or 1? place: the first bad index */
+    LOMUVERAN_NO_BYTE = 8,         /* does the input hold the number's next byte? place: the input's length */
+    LOMUVERAN_NUMBER = 9,          /* is the number in its shortest form, at most two bytes? place: its first byte */
+    LOMUVERAN_FORM = 10,           /* is the form number 1? */
+    LOMUVERAN_FILL = 11,           /* are the fill bits 0? place: the last number's first byte */
+    LOMUVERAN_SURPLUS = 12,        /* does the input end there? place: the first surplus byte */
+    LOMUVERAN_OUTPUT = 13,         /* is the output long enough? */
+    LOMUVERAN_PLACES = 14,         /* are both exchanged places below the length? */
+    LOMUVERAN_LENGTHS = 15,        /* have both orders one length? */
+    LOMUVERAN_WORDS = 16           /* are there exactly n words? */
+};
+
+/* number: 0, or that of the question that got a no; place: where, 0 unless the question names one; count: what the call
+ * reports, 0 where it is refused. */
+typedef struct lomuveran_answer {
+    size_t number;
+    size_t place;
+    size_t count;
+} lomuveran_answer;
+
+/* ---- how large the buffers must be. Question 1. Count: switches, so bits, of n places; entries that the setter logs for n
+ * places. apply and apply_inverse log one entry for each switch. */
+lomuveran_answer lomuveran_switches(size_t n);
+lomuveran_answer lomuveran_entries(size_t n);
+
+/* ---- set, mix, return */
+
+/* Set: the control bits of an order, a byte to a bit. order[i] is the place to which the block at place i goes.
+ * bit_count: exactly the switches of order_len places; log_words: at least 3 for each entry of the setter.
+ * Questions 1, 4, 5, 6. Count: the entries logged. */
+lomuveran_answer lomuveran_control_bits(const uint16_t *order, size_t order_len, uint8_t *bits, size_t bit_count,
+                                        uint16_t *log, size_t log_words);
+
+/* Mix: moves n blocks of width bytes through the network, in place. block_bytes: n * width; bit_count: exactly the switches
+ * of n places; log_words: at least 3 for each switch. Questions 1, 2, 3, 4, 5, 7. Count: the entries logged. */
+lomuveran_answer lomuveran_apply(size_t n, size_t width, uint8_t *blocks, size_t block_bytes, const uint8_t *bits,
+                                 size_t bit_count, uint16_t *log, size_t log_words);
+
+/* Return: moves them back. As lomuveran_apply. */
+lomuveran_answer lomuveran_apply_inverse(size_t n, size_t width, uint8_t *blocks, size_t block_bytes, const uint8_t *bits,
+                                         size_t bit_count, uint16_t *log, size_t log_words);
+
+/* Draw: an order of n places from n random words, over the front of out. Questions 1, 16, 13. Count: n. */
+lomuveran_answer lomuveran_shuffle(size_t n, const uint32_t *words, size_t word_count, uint16_t *out, size_t out_len);
+
+/* ---- sheets */
+
+/* The sheet of a setting, over the front of out. Questions 1, 4, 7, 13. Count: the bytes written. */
+lomuveran_answer lomuveran_write_sheet(size_t n, const uint8_t *bits, size_t bit_count, uint8_t *out, size_t out_len);
+
+/* The setting of a sheet, over the front of bits. Questions 8, 9, 10; 8, 9, 1; 4; 8, 9 of each number; 11, 12. Count: n. */
+lomuveran_answer lomuveran_read_sheet(const uint8_t *input, size_t input_len, uint8_t *bits, size_t bit_count);
+
+/* A number of one or two bytes at a place of the input. Questions 8, 9. value: the number; next: the place after it; both 0
+ * where the call is refused. */
+typedef struct lomuveran_number {
+    lomuveran_answer answer;
+    size_t value;
+    size_t next;
+} lomuveran_number;
+
+lomuveran_number lomuveran_read_number(const uint8_t *input, size_t input_len, size_t at);
+
+/* ---- permutations: len entries. An accepted call leaves the new permutation in the entries that it was lent to write. Each
+ * asks 1 and 6 of every permutation that it is handed, the first one first. Count 0, but for fixed_points. */
+
+/* Each place to itself. Question 1. */
+lomuveran_answer lomuveran_permutation_identity(uint16_t *entries, size_t len);
+
+/* Whether a list is a permutation of at most 1,024 places: it is then one as it stands. */
+lomuveran_answer lomuveran_permutation_from_list(const uint16_t *list, size_t len);
+
+/* Entries i and j exchanged. Then question 14. */
+lomuveran_answer lomuveran_permutation_exchange(uint16_t *entries, size_t len, size_t i, size_t j);
+
+/* First, then second: first[i] becomes second[first[i]]. Then question 15. */
+lomuveran_answer lomuveran_permutation_combine(uint16_t *first, size_t first_len, const uint16_t *second, size_t second_len);
+
+/* The inverse. */
+lomuveran_answer lomuveran_permutation_inverse(uint16_t *entries, size_t len);
+
+/* Count: how many entries stay home. */
+lomuveran_answer lomuveran_permutation_fixed_points(const uint16_t *entries, size_t len);
+
+#ifdef __cplusplus
+}
+#endif
+
+#endif

@@ -1,0 +1,148 @@
+//! The calls as they are: numbers and lent slices. A refused call leaves every lent slice as it was.
+
+use crate::{ffi, Refusal};
+
+/// How many switches n places have, and so how many bits a setting.
+///
+/// ```
+/// assert_eq!(lomuveran::switches(9), Ok(21));
+/// assert_eq!(lomuveran::switches(1025).unwrap_err().question, 1);
+/// ```
+pub fn switches(n: usize) -> Result<usize, Refusal> {
+    // SAFETY: no memory is lent.
+    unsafe { ffi::lomuveran_switches(n) }.count()
+}
+
+/// How many entries [`control_bits`] logs for n places; each is three words. [`apply`] and [`apply_inverse`] log one entry for
+/// each switch.
+///
+/// ```
+/// assert_eq!(lomuveran::entries(9), Ok(56));
+/// ```
+pub fn entries(n: usize) -> Result<usize, Refusal> {
+    // SAFETY: no memory is lent.
+    unsafe { ffi::lomuveran_entries(n) }.count()
+}
+
+/// The canonical setting of an order, a byte to a bit: `order[i]` is the place to which the block at place i goes. `bits` has
+/// exactly as many bytes as there are switches. Questions 1, 4, 5, 6. Gives the number of entries logged.
+///
+/// ```
+/// let (mut bits, mut log) = ([0; 3], [0; 33]);
+/// assert_eq!(lomuveran::control_bits(&[1, 2, 0], &mut bits, &mut log), Ok(11));
+/// assert_eq!(bits, [0, 1, 1]);
+/// ```
+pub fn control_bits(order: &[u16], bits: &mut [u8], log: &mut [u16]) -> Result<usize, Refusal> {
+    // SAFETY: each pointer goes with its slice's length, and the borrows keep the slices apart. The same holds below.
+    unsafe {
+        ffi::lomuveran_control_bits(order.as_ptr(), order.len(), bits.as_mut_ptr(), bits.len(), log.as_mut_ptr(), log.len())
+    }
+    .count()
+}
+
+/// Moves n blocks of `width` bytes through the network, in place. Questions 1, 2, 3, 4, 5, 7. Gives the number of entries
+/// logged.
+///
+/// ```
+/// let (mut blocks, mut log) = (*b"abc", [0; 9]);
+/// assert_eq!(lomuveran::apply(3, 1, &mut blocks, &[0, 1, 1], &mut log), Ok(3));
+/// assert_eq!(&blocks, b"cab");
+/// assert_eq!(log, [7, 0, 2, 7, 0, 1, 7, 0, 2]);
+/// ```
+pub fn apply(n: usize, width: usize, blocks: &mut [u8], bits: &[u8], log: &mut [u16]) -> Result<usize, Refusal> {
+    // SAFETY: as above.
+    unsafe {
+        ffi::lomuveran_apply(
+            n,
+            width,
+            blocks.as_mut_ptr(),
+            blocks.len(),
+            bits.as_ptr(),
+            bits.len(),
+            log.as_mut_ptr(),
+            log.len(),
+        )
+    }
+    .count()
+}
+
+/// Moves them back. As [`apply`].
+///
+/// ```
+/// let (mut blocks, mut log) = (*b"cab", [0; 9]);
+/// assert_eq!(lomuveran::apply_inverse(3, 1, &mut blocks, &[0, 1, 1], &mut log), Ok(3));
+/// assert_eq!(&blocks, b"abc");
+/// ```
+pub fn apply_inverse(n: usize, width: usize, blocks: &mut [u8], bits: &[u8], log: &mut [u16]) -> Result<usize, Refusal> {
+    // SAFETY: as above.
+    unsafe {
+        ffi::lomuveran_apply_inverse(
+            n,
+            width,
+            blocks.as_mut_ptr(),
+            blocks.len(),
+            bits.as_ptr(),
+            bits.len(),
+            log.as_mut_ptr(),
+            log.len(),
+        )
+    }
+    .count()
+}
+
+/// An order from n random words, over the front of `out`. Questions 1, 16, 13. Gives n.
+///
+/// ```
+/// let mut order = [0; 3];
+/// assert_eq!(lomuveran::shuffle(3, &[2, 1, 0], &mut order), Ok(3));
+/// assert_eq!(order, [2, 0, 1]);
+/// ```
+pub fn shuffle(n: usize, words: &[u32], out: &mut [u16]) -> Result<usize, Refusal> {
+    // SAFETY: as above.
+    unsafe { ffi::lomuveran_shuffle(n, words.as_ptr(), words.len(), out.as_mut_ptr(), out.len()) }.count()
+}
+
+/// The sheet of a setting, over the front of `out`. Questions 1, 4, 7, 13. Gives the number of bytes written.
+///
+/// ```
+/// let mut out = [0; lomuveran::MAX_SHEET];
+/// let count = lomuveran::write_sheet(3, &[0, 1, 1], &mut out).unwrap();
+/// assert_eq!(out[..count], [1, 3, 6]);
+/// ```
+pub fn write_sheet(n: usize, bits: &[u8], out: &mut [u8]) -> Result<usize, Refusal> {
+    // SAFETY: as above.
+    unsafe { ffi::lomuveran_write_sheet(n, bits.as_ptr(), bits.len(), out.as_mut_ptr(), out.len()) }.count()
+}
+
+/// The setting of a sheet, over the front of `bits`. Questions 8, 9, 10; 8, 9, 1; 4; 8, 9 of each number; 11, 12. Gives n.
+///
+/// ```
+/// let mut bits = [9; 4];
+/// assert_eq!(lomuveran::read_sheet(&[1, 3, 6], &mut bits), Ok(3));
+/// assert_eq!(bits, [0, 1, 1, 9]);
+/// ```
+pub fn read_sheet(input: &[u8], bits: &mut [u8]) -> Result<usize, Refusal> {
+    // SAFETY: as above.
+    unsafe { ffi::lomuveran_read_sheet(input.as_ptr(), input.len(), bits.as_mut_ptr(), bits.len()) }.count()
+}
+
+/// A number of a sheet, and the place after it.
+#[derive(Clone, Copy, Debug, PartialEq, Eq)]
+pub struct Number {
+    /// The number.
+    pub value: usize,
+    /// The place after it.
+    pub next: usize,
+}
+
+/// The number of one or two bytes at a place of the input. Questions 8, 9.
+///
+/// ```
+/// let number = lomuveran::read_number(&[1, 0x88, 0x2f], 1).unwrap();
+/// assert_eq!((number.value, number.next), (6024, 3));
+/// ```
+pub fn read_number(input: &[u8], at: usize) -> Result<Number, Refusal> {
+    // SAFETY: as above.
+    let ffi::Number { answer, value, next } = unsafe { ffi::lomuveran_read_number(input.as_ptr(), input.len(), at) };
+    answer.count().map(|_| Number { value, next })
+}

@@ -1,0 +1,70 @@
+//! The C interface (include/lomuveran.h). A slice crosses as a pointer and a length.
+
+use crate::Refusal;
+
+#[repr(C)]
+pub struct Answer {
+    pub number: usize,
+    pub place: usize,
+    pub count: usize,
+}
+
+impl Answer {
+    /// The count of an accepted call.
+    pub fn count(self) -> Result<usize, Refusal> {
+        match self.number {
+            0 => Ok(self.count),
+            question => Err(Refusal { question, place: self.place }),
+        }
+    }
+}
+
+#[repr(C)]
+pub struct Number {
+    pub answer: Answer,
+    pub value: usize,
+    pub next: usize,
+}
+
+extern "C" {
+    pub fn lomuveran_switches(n: usize) -> Answer;
+    pub fn lomuveran_entries(n: usize) -> Answer;
+    pub fn lomuveran_control_bits(
+        order: *const u16,
+        order_len: usize,
+        bits: *mut u8,
+        bit_count: usize,
+        log: *mut u16,
+        log_words: usize,
+    ) -> Answer;
+    pub fn lomuveran_apply(
+        n: usize,
+        width: usize,
+        blocks: *mut u8,
+        block_bytes: usize,
+        bits: *const u8,
+        bit_count: usize,
+        log: *mut u16,
+        log_words: usize,
+    ) -> Answer;
+    pub fn lomuveran_apply_inverse(
+        n: usize,
+        width: usize,
+        blocks: *mut u8,
+        block_bytes: usize,
+        bits: *const u8,
+        bit_count: usize,
+        log: *mut u16,
+        log_words: usize,
+    ) -> Answer;
+    pub fn lomuveran_shuffle(n: usize, words: *const u32, word_count: usize, out: *mut u16, out_len: usize) -> Answer;
+    pub fn lomuveran_write_sheet(n: usize, bits: *const u8, bit_count: usize, out: *mut u8, out_len: usize) -> Answer;
+    pub fn lomuveran_read_sheet(input: *const u8, input_len: usize, bits: *mut u8, bit_count: usize) -> Answer;
+    pub fn lomuveran_read_number(input: *const u8, input_len: usize, at: usize) -> Number;
+    pub fn lomuveran_permutation_identity(entries: *mut u16, len: usize) -> Answer;
+    pub fn lomuveran_permutation_from_list(list: *const u16, len: usize) -> Answer;
+    pub fn lomuveran_permutation_exchange(entries: *mut u16, len: usize, i: usize, j: usize) -> Answer;
+    pub fn lomuveran_permutation_combine(first: *mut u16, first_len: usize, second: *const u16, second_len: usize) -> Answer;
+    pub fn lomuveran_permutation_inverse(entries: *mut u16, len: usize) -> Answer;
+    pub fn lomuveran_permutation_fixed_points(entries: *const u16, len: usize) -> Answer;
+}

@@ -1,0 +1,30 @@
+//! Lomuveran mixes blocks into a secret order and puts them back, by a Waksman network: a fixed list of switches, each of which
+//! exchanges two blocks or leaves them. This package calls the proved library (`rt staticlib capi`) through its C interface.
+//!
+//! [`Setting`] and [`Permutation`] own their memory and are what most programs need. The functions are the library's calls as
+//! they are, on lent slices. Each call asks its questions in a fixed sequence; the first no is the [`Refusal`].
+
+#![warn(missing_docs)]
+#![deny(unsafe_op_in_unsafe_fn)]
+
+mod calls;
+mod ffi;
+mod permutation;
+mod refusal;
+mod setting;
+
+pub use calls::{apply, apply_inverse, control_bits, entries, read_number, read_sheet, shuffle, switches, write_sheet, Number};
+pub use permutation::Permutation;
+pub use refusal::Refusal;
+pub use setting::{Entry, Setting};
+
+/// The most places.
+pub const MAX_PLACES: usize = 1024;
+/// The widest block, in bytes.
+pub const MAX_WIDTH: usize = 256;
+/// The switches of the most places.
+pub const MAX_SWITCHES: usize = 9217;
+/// The entries that [`control_bits`] logs for the most places.
+pub const MAX_ENTRIES: usize = 16381;
+/// The bytes of the longest sheet.
+pub const MAX_SHEET: usize = 1320;

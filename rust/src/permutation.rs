@@ -1,0 +1,88 @@
+use crate::{ffi, Refusal, MAX_PLACES};
+
+/// A permutation of at most 1,024 places (an order): entry i is the place to which the block at place i goes.
+///
+/// ```
+/// # fn main() -> Result<(), lomuveran::Refusal> {
+/// use lomuveran::Permutation;
+///
+/// let order = Permutation::from_list(&[1, 2, 0])?;
+/// let back = order.inverse();
+/// assert_eq!(back.entries(), [2, 0, 1]);
+/// assert_eq!(order.combine(&back)?, Permutation::identity(3)?);
+/// assert_eq!(order.combine(&back)?.fixed_points(), 3);
+/// assert_eq!(Permutation::from_list(&[1, 3, 0]).unwrap_err().question, 6);
+/// # Ok(())
+/// # }
+/// ```
+#[derive(Clone, Debug, PartialEq, Eq, Hash)]
+pub struct Permutation {
+    entries: Vec<u16>,
+}
+
+impl Permutation {
+    /// Each place to itself. Question 1.
+    pub fn identity(n: usize) -> Result<Permutation, Refusal> {
+        // one entry too many is refused as any more would be
+        let mut entries = vec![0; n.min(MAX_PLACES + 1)];
+        // SAFETY: a pointer goes with its slice's length; the borrows keep two slices apart. The same holds below.
+        unsafe { ffi::lomuveran_permutation_identity(entries.as_mut_ptr(), entries.len()) }.count()?;
+        Ok(Permutation { entries })
+    }
+
+    /// A list that has each of its places once. Questions 1, 6.
+    pub fn from_list(list: &[u16]) -> Result<Permutation, Refusal> {
+        // SAFETY: as above.
+        unsafe { ffi::lomuveran_permutation_from_list(list.as_ptr(), list.len()) }.count()?;
+        Ok(Permutation { entries: list.to_vec() })
+    }
+
+    /// An order from as many random words as it has places. Question 1.
+    ///
+    /// ```
+    /// let order = lomuveran::Permutation::shuffle(&[2, 1, 0]).unwrap();
+    /// assert_eq!(order.entries(), [2, 0, 1]);
+    /// ```
+    pub fn shuffle(words: &[u32]) -> Result<Permutation, Refusal> {
+        let mut entries = vec![0; words.len().min(MAX_PLACES)];
+        crate::shuffle(words.len(), words, &mut entries)?;
+        Ok(Permutation { entries })
+    }
+
+    /// Exchanges entries i and j. Question 14.
+    pub fn exchange(&mut self, i: usize, j: usize) -> Result<(), Refusal> {
+        // SAFETY: as above.
+        unsafe { ffi::lomuveran_permutation_exchange(self.entries.as_mut_ptr(), self.entries.len(), i, j) }.count().map(drop)
+    }
+
+    /// First this one, then the second: entry i is `second[self[i]]`. Question 15.
+    pub fn combine(&self, second: &Permutation) -> Result<Permutation, Refusal> {
+        let mut entries = self.entries.clone();
+        let then = &second.entries;
+        // SAFETY: as above.
+        unsafe { ffi::lomuveran_permutation_combine(entries.as_mut_ptr(), entries.len(), then.as_ptr(), then.len()) }
+            .count()?;
+        Ok(Permutation { entries })
+    }
+
+    /// Entry v is the place that goes to v.
+    pub fn inverse(&self) -> Permutation {
+        let mut entries = self.entries.clone();
+        // SAFETY: as above.
+        let answer = unsafe { ffi::lomuveran_permutation_inverse(entries.as_mut_ptr(), entries.len()) };
+        answer.count().expect("a permutation is never refused");
+        Permutation { entries }
+    }
+
+    /// How many entries stay home.
+    pub fn fixed_points(&self) -> usize {
+        // SAFETY: as above.
+        let answer = unsafe { ffi::lomuveran_permutation_fixed_points(self.entries.as_ptr(), self.entries.len()) };
+        answer.count().expect("a permutation is never refused")
+    }
+
+    /// The list.
+    pub fn entries(&self) -> &[u16] {
+        &self.entries
+    }
+}

@@ -1,0 +1,114 @@
+use crate::{calls, Permutation, Refusal, MAX_SHEET, MAX_SWITCHES};
+use std::fmt;
+
+/// An entry of a log: its kind and two numbers.
+pub type Entry = [u16; 3];
+
+/// The setting of a network of n places: what mixes blocks and puts them back. It is a secret, so its `Debug` shows n alone.
+///
+/// ```
+/// # fn main() -> Result<(), lomuveran::Refusal> {
+/// use lomuveran::{Permutation, Setting};
+///
+/// let order = Permutation::from_list(&[6, 2, 3, 7, 5, 1, 8, 0, 4])?;
+/// let setting = Setting::control_bits(&order);
+/// let mut blocks = *b"abcdefghi";
+/// setting.apply(1, &mut blocks)?;
+/// assert_eq!(&blocks, b"hfbcieadg");
+///
+/// let sheet = setting.write_sheet(); // keep it for thirty years
+/// assert_eq!(sheet, [0x01, 0x09, 0x88, 0x2f, 0x1d]);
+/// Setting::read_sheet(&sheet)?.apply_inverse(1, &mut blocks)?;
+/// assert_eq!(&blocks, b"abcdefghi");
+/// # Ok(())
+/// # }
+/// ```
+#[derive(Clone, PartialEq, Eq)]
+pub struct Setting {
+    places: usize,
+    bits: Vec<u8>, // exactly the switches of so many places, each 0 or 1
+}
+
+impl Setting {
+    /// The canonical setting of an order.
+    pub fn control_bits(order: &Permutation) -> Setting {
+        Setting::control_bits_logged(order).0
+    }
+
+    /// The same, with the log of the call.
+    ///
+    /// ```
+    /// use lomuveran::{Permutation, Setting};
+    ///
+    /// let (setting, log) = Setting::control_bits_logged(&Permutation::from_list(&[1, 0]).unwrap());
+    /// assert_eq!(setting.bits(), [1]);
+    /// assert_eq!(log, [[5, 0, 2], [6, 0, 2]]);
+    /// ```
+    pub fn control_bits_logged(order: &Permutation) -> (Setting, Vec<Entry>) {
+        const NEVER: &str = "a permutation is never refused";
+        let places = order.entries().len();
+        let mut bits = vec![0; calls::switches(places).expect(NEVER)];
+        let mut log = vec![[0; 3]; calls::entries(places).expect(NEVER)];
+        calls::control_bits(order.entries(), &mut bits, log.as_flattened_mut()).expect(NEVER);
+        (Setting { places, bits }, log)
+    }
+
+    /// A setting from its bits. Questions 1, 4, 7.
+    ///
+    /// ```
+    /// use lomuveran::Setting;
+    ///
+    /// assert_eq!(Setting::from_bits(3, &[0, 1, 1]).unwrap().write_sheet(), [1, 3, 6]);
+    /// assert_eq!(Setting::from_bits(3, &[0, 2, 1]).unwrap_err().place, 1);
+    /// ```
+    pub fn from_bits(places: usize, bits: &[u8]) -> Result<Setting, Refusal> {
+        calls::write_sheet(places, bits, &mut [0; MAX_SHEET])?;
+        Ok(Setting { places, bits: bits.to_vec() })
+    }
+
+    /// Mixes the blocks, in place, and gives the log. Questions 2, 3.
+    pub fn apply(&self, width: usize, blocks: &mut [u8]) -> Result<Vec<Entry>, Refusal> {
+        let mut log = vec![[0; 3]; self.bits.len()];
+        calls::apply(self.places, width, blocks, &self.bits, log.as_flattened_mut())?;
+        Ok(log)
+    }
+
+    /// Puts the blocks back, in place, and gives the log. Questions 2, 3.
+    pub fn apply_inverse(&self, width: usize, blocks: &mut [u8]) -> Result<Vec<Entry>, Refusal> {
+        let mut log = vec![[0; 3]; self.bits.len()];
+        calls::apply_inverse(self.places, width, blocks, &self.bits, log.as_flattened_mut())?;
+        Ok(log)
+    }
+
+    /// The sheet: all that is needed to put the blocks back (docs/RULE.md).
+    pub fn write_sheet(&self) -> Vec<u8> {
+        let mut sheet = vec![0; MAX_SHEET];
+        let count = calls::write_sheet(self.places, &self.bits, &mut sheet).expect("a setting is never refused");
+        sheet.truncate(count);
+        sheet
+    }
+
+    /// Questions 8, 9, 10; 8, 9, 1; 8, 9 of each number; 11, 12.
+    pub fn read_sheet(sheet: &[u8]) -> Result<Setting, Refusal> {
+        let mut bits = vec![0; MAX_SWITCHES];
+        let places = calls::read_sheet(sheet, &mut bits)?;
+        bits.truncate(calls::switches(places)?);
+        Ok(Setting { places, bits })
+    }
+
+    /// n.
+    pub fn places(&self) -> usize {
+        self.places
+    }
+
+    /// A byte to a bit.
+    pub fn bits(&self) -> &[u8] {
+        &self.bits
+    }
+}
+
+impl fmt::Debug for Setting {
+    fn fmt(&self, f: &mut fmt::Formatter<'_>) -> fmt::Result {
+        f.debug_struct("Setting").field("places", &self.places).finish_non_exhaustive()
+    }
+}

@@ -1,0 +1,179 @@
+/* The header against the library: sizes and layout, each prototype, an accepted call of each, every refusal of the calls on
+ * permutations, and memory around what is lent. Compiled as C and as C++. */
+#include "lomuveran.h"
+
+#include <stdio.h>
+#include <string.h>
+
+static int compared, wrong;
+
+static void same(size_t is, size_t must, const char *what, int line) {
+    compared++;
+    if (is != must) {
+        wrong++;
+        printf("header.c:%d: %s is %zu, must be %zu\n", line, what, is, must);
+    }
+}
+
+static void alike(const void *is, const void *must, size_t bytes, const char *what, int line) {
+    same(memcmp(is, must, bytes) == 0, 1, what, line);
+}
+
+#define SAME(is, must) same(is, must, #is, __LINE__)
+#define ALIKE(is, must) alike(is, must, sizeof(is), #is, __LINE__)
+#define ANSWER(a, n, p, c) \
+    do { \
+        lomuveran_answer got = a; \
+        same(got.number, n, #a " .number", __LINE__); \
+        same(got.place, p, #a " .place", __LINE__); \
+        same(got.count, c, #a " .count", __LINE__); \
+    } while (0)
+
+/* ---- the types: an assignment of another type is an error under -Werror */
+
+static lomuveran_answer (*const of_count[])(size_t) = {lomuveran_switches, lomuveran_entries};
+static lomuveran_answer (*const of_set)(const uint16_t *, size_t, uint8_t *, size_t, uint16_t *, size_t) = lomuveran_control_bits;
+static lomuveran_answer (*const of_mix[])(size_t, size_t, uint8_t *, size_t, const uint8_t *, size_t, uint16_t *, size_t) = {
+    lomuveran_apply, lomuveran_apply_inverse};
+static lomuveran_answer (*const of_draw)(size_t, const uint32_t *, size_t, uint16_t *, size_t) = lomuveran_shuffle;
+static lomuveran_answer (*const of_write)(size_t, const uint8_t *, size_t, uint8_t *, size_t) = lomuveran_write_sheet;
+static lomuveran_answer (*const of_read)(const uint8_t *, size_t, uint8_t *, size_t) = lomuveran_read_sheet;
+static lomuveran_number (*const of_number)(const uint8_t *, size_t, size_t) = lomuveran_read_number;
+
+static void layout(void) {
+    SAME(sizeof(size_t), 8);
+    SAME(sizeof(lomuveran_answer), 24);
+    SAME(offsetof(lomuveran_answer, place), 8);
+    SAME(offsetof(lomuveran_answer, count), 16);
+    SAME(sizeof(lomuveran_number), 40);
+    SAME(offsetof(lomuveran_number, value), 24);
+    SAME(offsetof(lomuveran_number, next), 32);
+    ANSWER(of_count[0](LOMUVERAN_MAX_PLACES), LOMUVERAN_ACCEPTED, 0, LOMUVERAN_MAX_SWITCHES);
+    ANSWER(of_count[1](LOMUVERAN_MAX_PLACES), LOMUVERAN_ACCEPTED, 0, LOMUVERAN_MAX_ENTRIES);
+    ANSWER(of_count[0](LOMUVERAN_MAX_PLACES + 1), LOMUVERAN_TOO_MANY_PLACES, 0, 0);
+    ANSWER(of_count[1]((size_t)-1), LOMUVERAN_TOO_MANY_PLACES, 0, 0);
+}
+
+/* ---- case g of the scope document, with one item more than needed behind each buffer */
+
+static void mixing(void) {
+    static const uint16_t order[9] = {6, 2, 3, 7, 5, 1, 8, 0, 4};
+    static const char setting[22] = "000100011110101011100";
+    static const uint8_t sheet[6] = {0x01, 0x09, 0x88, 0x2f, 0x1d, 0xee};
+    uint8_t bits[22], read[22], out[6], blocks[11] = "abcdefghi*";
+    uint16_t log[3 * 56 + 1];
+    size_t i;
+    memset(bits, 0xee, sizeof bits);
+    memset(read, 0xee, sizeof read);
+    memset(out, 0xee, sizeof out);
+    memset(log, 0xee, sizeof log);
+    ANSWER(of_set(order, 9, bits, 21, log, 168), 0, 0, 56);
+    for (i = 0; i < 21; i++) SAME(bits[i] + (size_t)'0', (size_t)setting[i]);
+    SAME(bits[21], 0xee);
+    SAME(log[168], 0xeeee);
+    SAME(log[0] == 1 && log[1] == 0 && log[2] == 9, 1);
+    ANSWER(of_mix[0](9, 1, blocks, 9, bits, 21, log, 63), 0, 0, 21);
+    alike(blocks, "hfbcieadg*", 11, "mixed", __LINE__);
+    SAME(log[0] == 7 && log[1] == 0 && log[2] == 5, 1);
+    ANSWER(of_mix[1](9, 1, blocks, 9, bits, 21, log, 63), 0, 0, 21);
+    alike(blocks, "abcdefghi*", 11, "returned", __LINE__);
+    ANSWER(of_write(9, bits, 21, out, 6), 0, 0, 5);
+    ALIKE(out, sheet);
+    ANSWER(of_read(out, 5, read, 22), 0, 0, 9);
+    ALIKE(read, bits);
+    SAME(of_number(out, 5, 2).value, 6024);
+    SAME(of_number(out, 5, 2).next, 4);
+    ANSWER(of_number(out, 5, 2).answer, 0, 0, 0);
+    ANSWER(of_number(out, 3, 2).answer, LOMUVERAN_NO_BYTE, 3, 0);
+    SAME(of_number(out, 3, 2).value + of_number(out, 3, 2).next, 0);
+}
+
+/* the refusals of these calls: the Rust tests ask them on many inputs */
+static void refusals(void) {
+    static const uint16_t twice[2] = {0, 0};
+    static const uint32_t words[3] = {2, 1, 0};
+    static const uint16_t drawn[4] = {2, 0, 1, 9}, nines[4] = {9, 9, 9, 9};
+    static const uint8_t one[3] = {1, 3, 0x0e}, surplus[3] = {1, 0, 0}, longer[4] = {1, 3, 0x86, 0};
+    uint8_t bits[3] = {9, 9, 9}, blocks[2] = {1, 2};
+    static const uint8_t kept[3] = {9, 9, 9}, still[2] = {1, 2}, set[1] = {1}, two[1] = {2};
+    uint16_t log[6] = {0}, out[4] = {9, 9, 9, 9};
+    ANSWER(lomuveran_control_bits(twice, 2, bits, 1, log, 6), LOMUVERAN_ENTRY, 1, 0);
+    ANSWER(lomuveran_control_bits(twice, 2, bits, 2, log, 6), LOMUVERAN_BIT_COUNT, 0, 0);
+    ANSWER(lomuveran_control_bits(twice, 2, bits, 1, log, 5), LOMUVERAN_LOG, 0, 0);
+    ANSWER(lomuveran_apply(2, 0, blocks, 0, set, 1, log, 6), LOMUVERAN_WIDTH, 0, 0);
+    ANSWER(lomuveran_apply(2, 2, blocks, 2, set, 1, log, 6), LOMUVERAN_BLOCKS, 0, 0);
+    ANSWER(lomuveran_apply_inverse(2, 1, blocks, 2, two, 1, log, 6), LOMUVERAN_BIT, 0, 0);
+    ANSWER(lomuveran_read_sheet(one, 3, bits, 3), LOMUVERAN_FILL, 2, 0);
+    ANSWER(lomuveran_read_sheet(surplus, 3, bits, 3), LOMUVERAN_SURPLUS, 2, 0);
+    ANSWER(lomuveran_read_sheet(longer, 4, bits, 3), LOMUVERAN_NUMBER, 2, 0);
+    ANSWER(lomuveran_read_sheet(surplus + 1, 2, bits, 3), LOMUVERAN_FORM, 0, 0);
+    ANSWER(lomuveran_write_sheet(2, set, 1, bits, 2), LOMUVERAN_OUTPUT, 0, 0);
+    ALIKE(bits, kept);
+    ALIKE(blocks, still);
+    ANSWER(of_draw(3, words, 2, out, 4), LOMUVERAN_WORDS, 0, 0);
+    ALIKE(out, nines);
+    ANSWER(of_draw(3, words, 3, out, 4), 0, 0, 3);
+    ALIKE(out, drawn);
+}
+
+/* ---- permutations: every call with a good and a bad list, a list too long, and both records in their sequence */
+
+static void permutations(void) {
+    static const uint16_t order[4] = {1, 2, 0, 77}, second[3] = {0, 2, 1}, bad[4] = {1, 3, 0, 77};
+    static const uint16_t identity[4] = {0, 1, 2, 77}, exchanged[4] = {0, 2, 1, 77}, inverse[4] = {2, 0, 1, 77}, combined[4] = {2, 1, 0, 77};
+    static uint16_t large[1026], kept[1026];
+    uint16_t p[4];
+    size_t i;
+    for (i = 0; i < 1026; i++) large[i] = kept[i] = (uint16_t)(i < 1025 ? 1024 - i : 77);
+#define FROM(list) memcpy(p, list, sizeof p)
+    FROM(order);
+    ANSWER(lomuveran_permutation_identity(p, 3), 0, 0, 0);
+    ALIKE(p, identity);
+    ANSWER(lomuveran_permutation_from_list(order, 3), 0, 0, 0);
+    ANSWER(lomuveran_permutation_from_list(order, 4), LOMUVERAN_ENTRY, 3, 0);
+    FROM(order);
+    ANSWER(lomuveran_permutation_exchange(p, 3, 0, 2), 0, 0, 0);
+    ALIKE(p, exchanged);
+    FROM(order);
+    ANSWER(lomuveran_permutation_exchange(p, 3, 0, 3), LOMUVERAN_PLACES, 0, 0);
+    ANSWER(lomuveran_permutation_exchange(p, 3, (size_t)-1, 0), LOMUVERAN_PLACES, 0, 0);
+    ANSWER(lomuveran_permutation_combine(p, 3, second, 2), LOMUVERAN_ENTRY, 1, 0);
+    ANSWER(lomuveran_permutation_combine(p, 3, second, 1), LOMUVERAN_LENGTHS, 0, 0);
+    ANSWER(lomuveran_permutation_combine(p, 3, large, 1025), LOMUVERAN_TOO_MANY_PLACES, 0, 0);
+    ANSWER(lomuveran_permutation_combine(p, 4, large, 1025), LOMUVERAN_ENTRY, 3, 0);
+    ALIKE(p, order);
+    ANSWER(lomuveran_permutation_combine(p, 3, second, 3), 0, 0, 0);
+    ALIKE(p, combined);
+    FROM(order);
+    ANSWER(lomuveran_permutation_inverse(p, 3), 0, 0, 0);
+    ALIKE(p, inverse);
+    ANSWER(lomuveran_permutation_fixed_points(order, 3), 0, 0, 0);
+    ANSWER(lomuveran_permutation_fixed_points(identity, 3), 0, 0, 3);
+    FROM(bad);
+    ANSWER(lomuveran_permutation_exchange(p, 3, 9, 9), LOMUVERAN_ENTRY, 1, 0);
+    ANSWER(lomuveran_permutation_combine(p, 3, second, 3), LOMUVERAN_ENTRY, 1, 0);
+    ANSWER(lomuveran_permutation_inverse(p, 3), LOMUVERAN_ENTRY, 1, 0);
+    ANSWER(lomuveran_permutation_fixed_points(p, 3), LOMUVERAN_ENTRY, 1, 0);
+    ALIKE(p, bad);
+    ANSWER(lomuveran_permutation_identity(large, 1025), LOMUVERAN_TOO_MANY_PLACES, 0, 0);
+    ANSWER(lomuveran_permutation_from_list(large, 1025), LOMUVERAN_TOO_MANY_PLACES, 0, 0);
+    ANSWER(lomuveran_permutation_exchange(large, 1025, 0, 1), LOMUVERAN_TOO_MANY_PLACES, 0, 0);
+    ANSWER(lomuveran_permutation_combine(large, 1025, second, 3), LOMUVERAN_TOO_MANY_PLACES, 0, 0);
+    ANSWER(lomuveran_permutation_inverse(large, 1025), LOMUVERAN_TOO_MANY_PLACES, 0, 0);
+    ANSWER(lomuveran_permutation_fixed_points(large, 1025), LOMUVERAN_TOO_MANY_PLACES, 0, 0);
+    ALIKE(large, kept);
+    ANSWER(lomuveran_permutation_inverse(large + 1, 1024), 0, 0, 0); /* 1023, 1022, .. is its own inverse */
+    ALIKE(large, kept);
+    ANSWER(lomuveran_permutation_exchange(large + 1, 1024, 0, 1023), 0, 0, 0);
+    SAME(large[1] == 0 && large[1024] == 1023 && large[1025] == 77 && large[0] == 1024, 1);
+    ANSWER(lomuveran_permutation_fixed_points(large + 1, 1024), 0, 0, 2);
+}
+
+int main(void) {
+    layout();
+    mixing();
+    refusals();
+    permutations();
+    printf("compared %d answers and buffers from C, %d wrong\n", compared, wrong);
+    return wrong != 0;
+}

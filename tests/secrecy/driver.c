@@ -1,0 +1,79 @@
+// Accepted calls of the library with their secrets marked undefined, to be run under valgrind (see `run`).
+//   driver set|mix|return N,N.. WIDTH,WIDTH.. SEED
+// Secret are the order's entries (set), the bits and the bytes of the blocks (mix, return). SEED 0: the order that moves
+// nothing, or bits and bytes 0; 1: the reverse order, or bits and bytes 1; else drawn.
+#include "lomuveran.h"
+#include <stdio.h>
+#include <stdlib.h>
+#include <string.h>
+#include <valgrind/memcheck.h>
+
+static uint64_t state;
+static size_t drawn(size_t below) {
+    state = state * 6364136223846793005u + 1442695040888963407u;
+    return (state >> 33) % below;
+}
+static size_t switches(size_t m) { return m < 2 ? 0 : m - 1 + switches((m + 1) / 2) + switches(m / 2); }
+static size_t entries(size_t m) {
+    return m < 2 ? 0 : m == 2 ? 2 : 3 * ((m + 1) / 2) + 3 + entries((m + 1) / 2) + entries(m / 2);
+}
+// Exactly so many bytes, so that memcheck sees a byte too far.
+static void *room(size_t bytes) { return calloc(bytes ? bytes : 1, 1); }
+static void hide(void *p, size_t bytes) { (void)VALGRIND_MAKE_MEM_UNDEFINED(p, bytes); }
+static void show(void *p, size_t bytes) { (void)VALGRIND_MAKE_MEM_DEFINED(p, bytes); }
+static size_t depends(void *p, size_t bytes) { // bytes of p that depend on a secret
+    unsigned char *v = room(bytes);
+    size_t c = 0;
+    if (VALGRIND_GET_VBITS(p, v, bytes) == 1)
+        for (size_t i = 0; i < bytes; i++) c += v[i] != 0;
+    show(p, bytes), free(v);
+    return c;
+}
+// A trace is compared between these two.
+__attribute__((noinline)) void trace_begins(void) { __asm__ volatile(""); }
+__attribute__((noinline)) void trace_ends(void) { __asm__ volatile(""); }
+
+static size_t calls, asked, wrong, in_log, in_answer; // asked: calls in which there is something secret to decide on
+
+static void one(char op, size_t n, size_t width, size_t seed) {
+    size_t w = switches(n), words = 3 * (op == 's' ? entries(n) : w);
+    uint16_t *order = room(2 * n), *kept = room(2 * n), *log = room(2 * words), *log2 = room(6 * w);
+    uint8_t *blocks = room(n * width), *was = room(n * width), *bits = room(w);
+    lomuveran_answer r;
+    state = seed;
+    for (size_t i = 0; i < n; i++) order[i] = (uint16_t)(seed == 1 ? n - 1 - i : i);
+    for (size_t i = 0; i < n && seed > 1; i++) {
+        size_t j = i + drawn(n - i);
+        uint16_t t = order[i];
+        order[i] = order[j], order[j] = t;
+    }
+    memcpy(kept, order, 2 * n);
+    for (size_t i = 0; i < n * width; i++) blocks[i] = was[i] = (uint8_t)(seed > 1 ? drawn(256) : seed);
+    for (size_t i = 0; i < w && op != 's'; i++) bits[i] = (uint8_t)(seed > 1 ? drawn(2) : seed);
+    if (op == 's') hide(order, 2 * n);
+    else hide(blocks, n * width), hide(bits, w);
+    trace_begins();
+    if (op == 's') r = lomuveran_control_bits(order, n, bits, w, log, words);
+    else if (op == 'm') r = lomuveran_apply(n, width, blocks, n * width, bits, w, log, words);
+    else r = lomuveran_apply_inverse(n, width, blocks, n * width, bits, w, log, words);
+    trace_ends();
+    in_log += depends(log, 2 * words), in_answer += depends(&r, sizeof r);
+    show(order, 2 * n), show(blocks, n * width), show(bits, w);
+    wrong += r.number != 0 || 3 * r.count != words;
+    // the other way round, or the mix that was set, gives what it must
+    if (op == 'm') lomuveran_apply_inverse(n, width, blocks, n * width, bits, w, log2, 3 * w);
+    else lomuveran_apply(n, width, blocks, n * width, bits, w, log2, 3 * w);
+    for (size_t i = 0; i < n; i++) wrong += memcmp(blocks + (op == 's' ? kept[i] : i) * width, was + i * width, width) != 0;
+    calls++, asked += op == 's' ? n > 0 : w > 0;
+    free(order), free(kept), free(log), free(log2), free(blocks), free(was), free(bits);
+}
+
+int main(int argc, char **argv) {
+    if (argc != 5) return 2;
+    for (char *n = argv[2]; n; n = strchr(n, ',') ? strchr(n, ',') + 1 : 0)
+        for (char *w = argv[3]; w; w = strchr(w, ',') ? strchr(w, ',') + 1 : 0)
+            one(argv[1][0], strtoul(n, 0, 10), strtoul(w, 0, 10), strtoul(argv[4], 0, 10));
+    printf("%zu calls, %zu with secrets, %zu wrong, %zu log bytes and %zu answer bytes from a secret\n", calls, asked, wrong,
+           in_log, in_answer);
+    return wrong ? 5 : in_log || in_answer ? 4 : 0;
+}
