@@ -1,19 +1,18 @@
 -- The call from its questions: each refusal, and the accepted call.
 -- Assumes nothing.
-use mathlib.Core.Path.{_≡_, refl, sym, ap, _∙_}
-use mathlib.Core.Bool.{true, false}
+use mathlib.Core.Path.{_≡_, sym, ap, _∙_}
 use mathlib.Core.List.{List, [], _∷_}
-use Prim.Native.Nat.{ℕ, _+_, _*_, _≤_, _<_}
+use Prim.Native.Nat.{ℕ, _*_, _≤_, _<_}
 use native.Mathlib.Omega.{arith}
 use native.Mathlib.Decide.{decLt}
 use lib.Dec.{leb, eqb}
-use lib.ListN.{length, getD, List·getD-eq-default}
+use lib.ListN.{length, drop, getD, List·getD-eq-default}
 use borrow.Author.Tests.{le-leb, lt-leb, eq-eqb, ne-eqb}
 use Rattle.answers.specs.declared.Answer.{Answer}
 use Rattle.answers.specs.Answers.{refusal, accepted}
-use Rattle.answers.specs.Questions.{Question, ask, askEach, allYes, noAt, firstNo, firstBad}
+use Rattle.answers.specs.Questions.{Question, ask, askEach, allYes, noAt, firstNo}
 use Rattle.answers.specs.Outcomes.{logged}
-use Rattle.answers.proofs.Questions.{asked-yes, asked-no, all-good}
+use Rattle.answers.proofs.Questions.{asked-yes, asked-no}
 use Rattle.answers.proofs.Outcomes.{logged-refused, logged-accepted}
 use Rattle.answers.proofs.Buffers.{overlay-whole}
 use Rattle.counts.specs.Counts.{W, E}
@@ -48,8 +47,7 @@ module _ (order bits log : List ℕ) where
 
   -- what the questions come to
   pub no-1 : 1024 < length order → firstNo (setQuestions order bits log) ≡ noAt 1 0
-  unfolding from-4 from-5 from-6
-  no-1 h = asked-no 1 0 (leb (length order) 1024) from-4 (lt-leb (length order) 1024 h)
+  no-1 h = asked-no 1 0 (leb (length order) 1024) (drop 1 (setQuestions order bits log)) (lt-leb (length order) 1024 h)
 
   module _ (h₁ : length order ≤ 1024) where
     past-1 : firstNo (setQuestions order bits log) ≡ firstNo from-4
@@ -90,9 +88,7 @@ module _ (order bits log : List ℕ) where
   pub refused : {a : Answer} {bits′ log′ : List ℕ} (q p : ℕ) → firstNo (setQuestions order bits log) ≡ noAt q p → a ≡ refusal q p → bits′ ≡ bits
       → log′ ≡ log → logged a bits′ log′ ≡ setCall order bits log
   unfolding setCall
-  refused q p e r b l =
-      logged-refused (firstNo (setQuestions order bits log)) (E (length order)) (settingOf paper order (setEntries paper (length order))) bits
-      (words (setEntries paper (length order))) log e r b l
+  refused q p e r b l = logged-refused _ _ _ _ _ _ e r b l
 
   -- an accepted call: what the setter left
   pub taken : {a : Answer} {bits′ log′ : List ℕ} (count : ℕ) → firstNo (setQuestions order bits log) ≡ allYes → Sets order log count bits′ log′

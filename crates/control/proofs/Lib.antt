@@ -1,7 +1,6 @@
 pub mod Bounds
 pub mod Trails
 pub mod Entries
-pub mod Stepping
 pub mod Start
 pub mod Whole
 pub mod Asked

@@ -1,7 +1,7 @@
 -- The table as it starts: the order copied, the bits cleared, trails and marks empty.
 -- Assumes nothing.
 use mathlib.Core.Path.{_≡_, refl, sym, ap, _∙_, fun-ext}
-use mathlib.Core.List.{List, [], _∷_}
+use mathlib.Core.List.{List, _∷_}
 use Prim.Native.Nat.{ℕ, zero, suc, _+_, _-_, _*_, _≤_, _<_}
 use native.Mathlib.Nat.{zero-add}
 use native.Mathlib.Omega.{arith}
@@ -22,8 +22,9 @@ use Rattle.steps.proofs.Places.{Unlike}
 use Rattle.steps.proofs.Running.{run-is-fold}
 use Rattle.steps.proofs.Sweeps.{length-each, each-at}
 use Rattle.sweeps.specs.Tables.{Below}
-use Rattle.control.specs.declared.Walk.{Walk}
-use Rattle.control.specs.Inner.{state, Went, Room, Tidy, Lengthens, Sets}
+use Rattle.setter.specs.declared.Walk.{Walk}
+use Rattle.setter.specs.Walks.{state, Went}
+use Rattle.control.specs.Inner.{Room, Tidy, Lengthens, Sets}
 use Rattle.control.proofs.Entries.{length-entries}
 
 unlike-self : (n : ℕ) → Unlike n (λ i. i)

@@ -11,7 +11,6 @@ use native.Mathlib.Omega.{arith}
 use native.Mathlib.Decide.{decLt}
 use lib.Dec.{ltb}
 use lib.ListN.{length, getD}
-use borrow.Author.Tests.{lt-ltb, le-ltb}
 use Rattle.counts.specs.Counts.{up}
 use Rattle.network.specs.Wiring.{Side, paper}
 use Rattle.network.specs.Network.{Network, network, switchCount, down}
@@ -24,7 +23,8 @@ use Rattle.steps.specs.Fold.{roundsOf, inputSteps, setNet}
 use Rattle.steps.proofs.Places.{Unlike}
 use Rattle.steps.proofs.Sweeps.{length-each, each-off, each-at, turned, SidesUnlike, length-act, act-off, act-at}
 use Rattle.sweeps.specs.Tables.{Within}
-use Rattle.control.specs.Inner.{within, Lengthens}
+use Rattle.setter.specs.Walks.{within}
+use Rattle.control.specs.Inner.{Lengthens}
 use Rattle.control.proofs.Bounds.{further}
 
 -- P holds of each of the m trails from o

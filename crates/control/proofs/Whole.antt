@@ -1,9 +1,9 @@
 -- A network of two places or more: what each of its parts asks follows from what the parts before it did, and the whole
 -- is what the definition says.
 -- Assumes nothing.
-use mathlib.Core.Path.{_≡_, refl, sym, ap, _∙_}
-use mathlib.Core.List.{List, [], _∷_, _++_, append-assoc}
-use Prim.Native.Nat.{ℕ, _+_, _-_, _*_, _≤_, _<_}
+use mathlib.Core.Path.{_≡_, ap}
+use mathlib.Core.List.{List, [], _∷_, _++_}
+use Prim.Native.Nat.{ℕ, _+_, _-_, _*_, _≤_}
 use native.Mathlib.Omega.{arith}
 use lib.ListN.{length, length-append}
 use Rattle.counts.specs.Counts.{up, W, E}
@@ -16,9 +16,10 @@ use Rattle.steps.specs.Steps.{step5, step6}
 use Rattle.steps.specs.Sequence.{entry, inputEntries, entriesOf}
 use Rattle.steps.specs.Fold.{inputSteps, setNet}
 use Rattle.sweeps.specs.Tables.{Below}
-use Rattle.control.specs.declared.Walk.{Walk}
-use Rattle.control.specs.Inner.{state, within, Went, Room, Tidy, Lengthens}
-use Rattle.control.proofs.Bounds.{below-more, tidy-more, tidy5, tidy-input, tidy-net}
+use Rattle.setter.specs.declared.Walk.{Walk}
+use Rattle.setter.specs.Walks.{state, within, Went}
+use Rattle.control.specs.Inner.{Room, Tidy, Lengthens}
+use Rattle.control.proofs.Bounds.{tidy-more, tidy5, tidy-input, tidy-net}
 use Rattle.control.proofs.Trails.{Halfway, halfway-enter, halfway-kept, halfway-top, halfway-bottom}
 use Rattle.control.proofs.Entries.{went-then, went-as, E-parts, W-parts, length-entries, entries-split, net-split}
 

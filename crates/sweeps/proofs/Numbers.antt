@@ -1,8 +1,8 @@
 -- Selecting by arithmetic: the carry of a sum as a test, masks, and the paper's pairs with no branch.
 -- Assumes nothing.
-use mathlib.Core.Path.{_≡_, refl, sym, ap, _∙_}
+use mathlib.Core.Path.{_≡_, refl, _∙_}
 use mathlib.Core.Bool.{Bool, true, false, not, cond}
-use Prim.Native.Nat.{ℕ, zero, suc, _+_, _-_, _*_, _/_, _%_, _^_, _≤_, _<_}
+use Prim.Native.Nat.{ℕ, zero, suc, _+_, _-_, _*_, _/_, _^_, _≤_, _<_}
 use native.Mathlib.Nat.{mod-eq-of-lt}
 use native.Mathlib.Omega.{arith}
 use native.Mathlib.Decide.{ℕ-discrete, decLt}
@@ -21,10 +21,20 @@ pub digit-byte : (b : Bool) → boolByte b ≡ digit b
 digit-byte true = refl
 digit-byte false = refl
 
+pub byte-small : (b : Bool) → boolByte b < 2
+byte-small b = rw (digit-byte b) (digit-small b)
+
 -- a bit says what it was made of
 pub digit-is : (b : Bool) → eqb (digit b) 1 ≡ b
 digit-is true = refl
 digit-is false = refl
+
+pub other-digit : (b : Bool) → 1 - digit (not b) ≡ digit b
+other-digit true = refl
+other-digit false = refl
+
+pub byte-is : (b : Bool) → eqb (boolByte b) 1 ≡ b
+byte-is b = rw (digit-byte b) (digit-is b)
 
 pub carry : (a b : ℕ) → a < 32768 → b < 32768 → (a + 32768 - b) / 32768 ≡ digit (not (ltb a b))
 carry a b ha hb = go (decLt a b)

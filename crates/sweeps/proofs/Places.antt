@@ -2,7 +2,7 @@
 -- Assumes nothing.
 use mathlib.Core.Path.{_≡_, refl, sym, ap, _∙_}
 use mathlib.Core.Bool.{Bool, true, false, not, cond}
-use mathlib.Core.List.{List, [], _∷_, _++_, append-assoc}
+use mathlib.Core.List.{List, [], _∷_, append-assoc}
 use Prim.Native.Nat.{ℕ, zero, suc, _+_, _-_, _*_, _%_, _≤_, _<_}
 use native.Mathlib.Numerals.{add-one}
 use native.Mathlib.Omega.{arith}
@@ -10,9 +10,9 @@ use native.Mathlib.Decide.{ℕ-discrete, decLt}
 use mir.Val.{boolByte}
 use lib.Bits.{bitAnd, bitOr, or-zero-r, or-zero-l}
 use lib.Dec.{ltb, eqb}
-use lib.ListN.{length, getD, set, take, drop, length-set}
+use lib.ListN.{length, getD, set, take, drop}
 use lib.Seq.{getD-set-same, getD-set-other, set-getD, sets-eq}
-use borrow.Author.Tests.{lt-ltb, le-ltb, eq-eqb, ne-eqb, eqb-true, eqb-false}
+use borrow.Author.Tests.{lt-ltb, le-ltb, eq-eqb, ne-eqb}
 use Rattle.answers.specs.Buffers.{overlay}
 use Rattle.answers.specs.Questions.{firstBad}
 use Rattle.answers.proofs.Questions.{bad-within, bad-counts, bad-stops, bad-stays}
@@ -34,10 +34,6 @@ under b z x e l =
 -- and under that of a test alone
 pub under-test : (b : Bool) (x : ℕ) → x < 65536 → bitAnd x (boolByte b * 65535) ≡ cond b x 0
 under-test b x l = rw (digit-byte b, masked 16 65535 refl (digit b) x (digit-small b) l, digit-is b)
-
-pub byte-small : (b : Bool) → boolByte b < 2
-byte-small true = omega arith
-byte-small false = omega arith
 
 -- ---- look: what has been gathered of the m places when i of them have passed
 

@@ -5,7 +5,7 @@
 ghost use mathlib.Core.Path.{_≡_};
 ghost use mathlib.Core.Bool.{not, cond};
 ghost use mathlib.Core.List.{[], _∷_};
-ghost use Prim.Native.Nat.{ℕ, _+_, _*_, _-_, _/_, _%_, _≤_, _<_};
+ghost use Prim.Native.Nat.{_+_, _*_, _-_, _/_, _%_, _≤_, _<_};
 ghost use lib.Dec.{eqb, ltb};
 ghost use lib.ListN.{length, getD};
 ghost use Rattle.answers.specs.Buffers.{overlay};
@@ -24,6 +24,14 @@ pub fn at_least(a: u16, b: u16) -> u16
     ensures { λ r. ⌜ r ≡ digit (not (ltb a b)) ⌝ }
 {
     (a + 32768 - b) / 32768
+}
+
+// 1 where a is below b, else 0.
+pub fn below(a: u16, b: u16) -> u16
+    requires { ⌜ (a < 32768) × (b < 32768) ⌝ }
+    ensures { λ r. ⌜ (r ≡ digit (ltb a b)) × (r < 2) ⌝ }
+{
+    1 - at_least(a, b)
 }
 
 // 1 where a and b are equal, else 0.
@@ -51,17 +59,18 @@ pub fn pick(s: u16, a: u16, b: u16) -> u16
     (a & m) | (b & (65535 - m))
 }
 
-// The greater of two, and the smaller. The compiler makes a maximum and a minimum of these, and no jump.
+// The greater of two, and the smaller, by a mask. The compiler knows this form: it makes a maximum and a minimum of these,
+// so that a sweep takes several places at a time. By `at_least` it would take one.
 fn most(a: u16, b: u16) -> u16
     ensures { λ r. ⌜ r ≡ cond (ltb a b) b a ⌝ }
 {
-    if a < b { b } else { a }
+    pick((a < b) as u16, b, a)
 }
 
 fn least(a: u16, b: u16) -> u16
     ensures { λ r. ⌜ r ≡ cond (ltb a b) a b ⌝ }
 {
-    if a < b { a } else { b }
+    pick((a < b) as u16, a, b)
 }
 
 fn wide(x: u8) -> u16

@@ -7,8 +7,8 @@ use Prim.Native.Nat.{_+_, _-_, _≤_, _<_}
 use lib.Dec.{ltb, eqb}
 use lib.ListN.{getD}
 use Rattle.steps.specs.Steps.{digit}
-use Rattle.sweeps.proofs.Numbers.{digit-small, masked}
-use Rattle.sweeps.proofs.Places.{Looked, byte-small, look-none, look-code, look-all}
+use Rattle.sweeps.proofs.Numbers.{digit-small, byte-small, masked}
+use Rattle.sweeps.proofs.Places.{Looked, look-none, look-code, look-all}
 use Rattle.sweeps.proofs.look_at.Statement.{statement}
 use Rattle.sweeps.proofs.look_at.Tie as tie
 

@@ -9,8 +9,8 @@ use lib.Dec.{eqb}
 use lib.ListN.{length, getD, length-set}
 use Rattle.steps.specs.Steps.{digit}
 use Rattle.steps.specs.Sweeps.{store, marked}
-use Rattle.sweeps.proofs.Numbers.{digit-small}
-use Rattle.sweeps.proofs.Places.{byte-small, store-none, store-step, lowOf, low-step, low-all, final, mark-byte, mark-shows}
+use Rattle.sweeps.proofs.Numbers.{digit-small, byte-small}
+use Rattle.sweeps.proofs.Places.{store-none, store-step, lowOf, low-step, low-all, final, mark-byte, mark-shows}
 use Rattle.answers.specs.Questions.{firstBad, firstBadFrom}
 use mathlib.Core.List.{List}
 use mir.Val.{boolByte}

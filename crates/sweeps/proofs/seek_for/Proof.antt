@@ -7,8 +7,8 @@ use mathlib.Core.Bool.{not}
 use Prim.Native.Nat.{_+_, _-_, _≤_}
 use lib.Dec.{ltb, eqb}
 use lib.ListN.{getD}
-use Rattle.sweeps.proofs.Numbers.{digit-small}
-use Rattle.sweeps.proofs.Places.{under-test, byte-small, Best, seek-none, seek-step, found-within, seek-all}
+use Rattle.sweeps.proofs.Numbers.{digit-small, byte-small}
+use Rattle.sweeps.proofs.Places.{under-test, Best, seek-none, seek-step, found-within, seek-all}
 use Rattle.sweeps.proofs.seek_for.Statement.{statement}
 use Rattle.sweeps.proofs.seek_for.Tie as tie
 

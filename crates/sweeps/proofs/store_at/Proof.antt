@@ -6,7 +6,8 @@ use Prim.Native.Nat.{_+_, _-_, _≤_, _<_}
 use lib.Dec.{eqb}
 use lib.ListN.{length, getD, length-set}
 use Rattle.steps.specs.Sweeps.{store}
-use Rattle.sweeps.proofs.Places.{byte-small, store-none, store-step, store-byte}
+use Rattle.sweeps.proofs.Numbers.{byte-small}
+use Rattle.sweeps.proofs.Places.{store-none, store-step, store-byte}
 use Rattle.sweeps.proofs.store_at.Statement.{statement}
 use Rattle.sweeps.proofs.store_at.Tie as tie
 

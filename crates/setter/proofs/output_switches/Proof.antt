@@ -2,9 +2,9 @@
 -- Assumes nothing.
 use native.Mathlib.Omega.{arith}
 use borrow.Author.Needs.{needs}
-use Rattle.control.proofs.Bounds.{each-below}
-use Rattle.control.proofs.output_switches.Statement.{statement}
-use Rattle.control.proofs.output_switches.Tie as tie
+use Rattle.setter.proofs.Bounds.{each-below}
+use Rattle.setter.proofs.output_switches.Statement.{statement}
+use Rattle.setter.proofs.output_switches.Tie as tie
 
 add-k : tie.Need-add-k
 add-k c = search needs

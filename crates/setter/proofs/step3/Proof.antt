@@ -3,16 +3,13 @@
 use native.Mathlib.Omega.{arith}
 use borrow.Author.Needs.{needs}
 use mathlib.Core.Path.{ap, _∙_}
-use mathlib.Core.Bool.{not}
 use Prim.Native.Nat.{_≤_}
-use lib.Dec.{ltb}
 use Rattle.counts.specs.Counts.{up}
-use Rattle.sweeps.proofs.Numbers.{digit-small}
-use Rattle.control.specs.declared.Walk.{Walk}
-use Rattle.control.proofs.Stepping.{went-one, low-within, step3-is}
-use Rattle.control.proofs.Bounds.{pair-within}
-use Rattle.control.proofs.step3.Statement.{statement}
-use Rattle.control.proofs.step3.Tie as tie
+use Rattle.setter.specs.declared.Walk.{Walk}
+use Rattle.setter.proofs.Stepping.{went-one, low-within, step3-is}
+use Rattle.setter.proofs.Bounds.{pair-within}
+use Rattle.setter.proofs.step3.Statement.{statement}
+use Rattle.setter.proofs.step3.Tie as tie
 
 add-k : tie.Need-add-k
 add-k c = search needs
@@ -23,14 +20,11 @@ cast-pair-of c = search needs
 pair-of-requires : tie.Need-pair-of-requires
 pair-of-requires c κs = search needs
 
-cast-at-least : tie.Need-cast-at-least
-cast-at-least c = search needs
+cast-below : tie.Need-cast-below
+cast-below c = search needs
 
-at-least-requires : tie.Need-at-least-requires
-at-least-requires c κs = search needs
-
-sub-bit : tie.Need-sub-bit
-sub-bit c = rw (c .at-least .ensures) (omega (arith, digit-small (not (ltb (c .before .before .before .before .before .args .w .s) (up (c .before .before .before .before .before .args .m))))))
+below-requires : tie.Need-below-requires
+below-requires c κs = search needs
 
 cast-switch-of : tie.Need-cast-switch-of
 cast-switch-of c = search needs
@@ -82,7 +76,7 @@ returns c =
           (c .before .before .before .write-entry .ensures),
       λ vs ts.
           step3-is (a .o) (a .m) (a .w .b) vs ts (a .marks .now) (a .bits .now) (a .w) (c .turn .result) (c .before .before .before .before .before .before .before .before .before .before .before .before .before .before .before .pair-of .result) (c .before .before .before .before .before .before .before .before .before .before .before .before .switch-of .result)
-          (c .before .before .before .before .before .before .before .before .before .before .before .before .before .before .at-least .result) (c .before .before .before .before .before .before .before .mark-pair .result) _ _ (c .before .before .before .before .before .before .before .before .before .before .before .before .before .before .before .pair-of .ensures) (c .before .before .before .before .before .before .before .before .before .before .before .before .switch-of .ensures) (c .before .before .before .before .before .before .before .before .before .before .before .before .before .before .at-least .ensures)
+          (c .before .before .before .before .before .before .before .before .before .before .before .before .before .before .below .result) (c .before .before .before .before .before .before .before .mark-pair .result) _ _ (c .before .before .before .before .before .before .before .before .before .before .before .before .before .before .before .pair-of .ensures) (c .before .before .before .before .before .before .before .before .before .before .before .before .switch-of .ensures) (c .before .before .before .before .before .before .before .before .before .before .before .before .before .before .below .ensures .0)
           (c .before .before .before .before .before .before .before .before .before .before .before .store-at .ensures) (c .before .before .before .before .before .before .before .mark-pair .ensures) (c .turn .ensures),
     )
 
@@ -93,9 +87,8 @@ step3-spec =
     add-k
     cast-pair-of
     pair-of-requires
-    cast-at-least
-    at-least-requires
-    sub-bit
+    cast-below
+    below-requires
     cast-switch-of
     switch-of-requires
     cast-store-at

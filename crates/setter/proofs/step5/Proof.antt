@@ -2,10 +2,10 @@
 -- Assumes nothing.
 use borrow.Author.Needs.{needs}
 use mathlib.Core.Path.{ap}
-use Rattle.control.specs.declared.Walk.{Walk}
-use Rattle.control.proofs.Stepping.{went-one, step5-is}
-use Rattle.control.proofs.step5.Statement.{statement}
-use Rattle.control.proofs.step5.Tie as tie
+use Rattle.setter.specs.declared.Walk.{Walk}
+use Rattle.setter.proofs.Stepping.{went-one, step5-is}
+use Rattle.setter.proofs.step5.Statement.{statement}
+use Rattle.setter.proofs.step5.Tie as tie
 
 add-k : tie.Need-add-k
 add-k c = search needs

@@ -8,10 +8,10 @@ use Rattle.counts.specs.Counts.{up}
 use Rattle.steps.specs.Sweeps.{noneMarked}
 use Rattle.sweeps.proofs.Numbers.{digit-small}
 use Rattle.sweeps.proofs.Places.{at-place}
-use Rattle.control.proofs.Stepping.{went-one, step1-is}
-use Rattle.control.proofs.Bounds.{pick-below}
-use Rattle.control.proofs.step1.Statement.{statement}
-use Rattle.control.proofs.step1.Tie as tie
+use Rattle.setter.proofs.Stepping.{went-one, step1-is}
+use Rattle.setter.proofs.Bounds.{pick-below}
+use Rattle.setter.proofs.step1.Statement.{statement}
+use Rattle.setter.proofs.step1.Tie as tie
 
 add-k : tie.Need-add-k
 add-k c = search needs

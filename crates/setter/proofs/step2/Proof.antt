@@ -2,15 +2,15 @@
 -- Assumes nothing.
 use native.Mathlib.Omega.{arith}
 use borrow.Author.Needs.{needs}
-use Rattle.control.proofs.Stepping.{went-one, step2-is}
-use Rattle.control.proofs.step2.Statement.{statement}
-use Rattle.control.proofs.step2.Tie as tie
+use Rattle.setter.proofs.Stepping.{went-one, step2-is}
+use Rattle.setter.proofs.step2.Statement.{statement}
+use Rattle.setter.proofs.step2.Tie as tie
 
 add-k : tie.Need-add-k
 add-k c = search needs
 
-cast-other-of : tie.Need-cast-other-of
-cast-other-of c = search needs
+cast-k : tie.Need-cast-k
+cast-k c = search needs
 
 other-of-requires : tie.Need-other-of-requires
 other-of-requires c κs = search needs
@@ -41,7 +41,7 @@ step2-spec =
     tie.close
     (tie.spec
     add-k
-    cast-other-of
+    cast-k
     other-of-requires
     seek-for-requires
     write-entry-requires

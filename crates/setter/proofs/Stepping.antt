@@ -1,27 +1,27 @@
 -- From what the sweeps left to the step of the definition.
 -- Assumes nothing.
-use mathlib.Core.Path.{_≡_, refl, sym, ap, _∙_}
+use mathlib.Core.Path.{_≡_, refl, sym, _∙_}
 use mathlib.Core.Bool.{Bool, true, false, not, cond}
 use mathlib.Core.List.{List, [], _∷_}
 use Prim.Native.Nat.{ℕ, _+_, _-_, _*_, _/_, _%_, _≤_, _<_}
 use native.Mathlib.Omega.{arith}
 use native.Mathlib.Decide.{decLt}
 use lib.Dec.{ltb, eqb}
-use lib.ListN.{length, getD, set}
+use lib.ListN.{getD, set}
 use borrow.Author.Tests.{lt-ltb, le-ltb}
 use Rattle.answers.specs.Buffers.{overlay}
 use Rattle.answers.proofs.Questions.{bad-within}
 use Rattle.counts.specs.Counts.{up}
-use Rattle.network.specs.Wiring.{Side, paper}
+use Rattle.network.specs.Wiring.{paper}
 use Rattle.network.specs.Log.{words}
-use Rattle.steps.specs.Sweeps.{look, seek, store, each, act, marked, noneMarked, lowestUnmarked}
+use Rattle.steps.specs.Sweeps.{look, seek, store, each, act, marked, noneMarked}
 use Rattle.steps.specs.State.{State, outputBit}
 use Rattle.steps.specs.Steps.{other, digit, step1, step2, step3, step4, step5, step6}
 use Rattle.steps.specs.Sequence.{entry}
 use Rattle.sweeps.specs.Tables.{Marked}
-use Rattle.sweeps.proofs.Numbers.{digit-is, pairs}
-use Rattle.control.specs.declared.Walk.{Walk}
-use Rattle.control.specs.Inner.{state, within, turned, Went, Switched}
+use Rattle.sweeps.proofs.Numbers.{digit-is, other-digit, pairs}
+use Rattle.setter.specs.declared.Walk.{Walk}
+use Rattle.setter.specs.Walks.{state, within, turned, Went, Switched}
 
 -- an entry written, and n bits passed
 abbrev pub onward : ℕ → Walk → Walk
@@ -32,14 +32,14 @@ pub went-one : (kind o m n : ℕ) (w r : Walk) (before after : List ℕ) → r .
 went-one kind o m n w r before after e b l = record { count = omega (arith, e); bit = b; log = l }
 
 -- both factors are bits: the product says that both are 1
-pub again-is : (a b : Bool) → digit a * (1 - digit (not b)) ≡ digit (cond a b false)
+pub again-is : (a b : Bool) → digit a * digit b ≡ digit (cond a b false)
 again-is true true = refl
 again-is true false = refl
 again-is false true = refl
 again-is false false = refl
 
-pub turned-is : (k low : ℕ) (w : Walk) (f e a p q : ℕ) → f ≡ other paper k (w .s) → e ≡ digit (eqb f (w .c)) → a ≡ digit (not (ltb low k))
-    → p ≡ cond (eqb (e * (1 - a)) 1) low f → q ≡ cond (eqb (e * (1 - a)) 1) low (w .c)
+pub turned-is : (k low : ℕ) (w : Walk) (f e a p q : ℕ) → f ≡ other paper k (w .s) → e ≡ digit (eqb f (w .c)) → a ≡ digit (ltb low k)
+    → p ≡ cond (eqb (e * a) 1) low f → q ≡ cond (eqb (e * a) 1) low (w .c)
     → _≡_ {A = Walk} (record { f = p; c = q; g = w .g; s = w .s; e = w .e + 1; b = w .b }) (turned k low w)
 turned-is k low w f e a p q ef ee ea ep eq =
     rw (ep, eq, ee, ea, again-is (eqb f (w .c)) (ltb low k), digit-is (cond (eqb f (w .c)) (ltb low k) false), ef)
@@ -71,9 +71,12 @@ module _ (o m bit : ℕ) (vs ts ms bs : List ℕ) (w : Walk) where
   step2-is a s ea es = rw (es, ea)
 
   -- 1 where s is below k: the other side's digit
-  other-digit : (t : Bool) → 1 - digit t ≡ digit (not t)
-  other-digit true = refl
-  other-digit false = refl
+  turned-round : (s k : ℕ) → digit (ltb s k) ≡ digit (not (paper .dec k s .1))
+  turned-round s k = sym (other-digit (ltb s k)) ∙ rw (pairs k s .side) (across (paper .dec k s .1))
+    where
+      across : (t : Bool) → 1 - digit t ≡ digit (not t)
+      across true = refl
+      across false = refl
 
   -- a sweep of k places under the switch's number stores what one of the k - 1 switches' places does
   one-more : (k p q a : ℕ) → q ≡ cond (ltb p (k - 1)) p (p + k) → store (λ i. bit + i) k q a bs ≡ store (λ i. bit + i) (k - 1) p a bs
@@ -87,15 +90,13 @@ module _ (o m bit : ℕ) (vs ts ms bs : List ℕ) (w : Walk) where
       go (no l) = rw (le-ltb p (k - 1) (omega arith), le-ltb (p + k) k (omega arith))
 
   pub step3-is : (r : Walk) (p q a low : ℕ) (ms′ bs′ : List ℕ) → p ≡ paper .dec (up m) (w .s) .0
-      → q ≡ cond (ltb p (up m - 1)) p (p + up m) → a ≡ digit (not (ltb (w .s) (up m)))
-      → bs′ ≡ store (λ i. bit + i) (up m) q (1 - a) bs → Marked ms (up m) p ms′ low → r ≡ turned (up m) low w
+      → q ≡ cond (ltb p (up m - 1)) p (p + up m) → a ≡ digit (ltb (w .s) (up m))
+      → bs′ ≡ store (λ i. bit + i) (up m) q a bs → Marked ms (up m) p ms′ low → r ≡ turned (up m) low w
       → state vs ts ms′ bs′ r ≡ step3 paper (within o m bit) (state vs ts ms bs w)
   unfolding step3
   step3-is r p q a low ms′ bs′ ep eq ea eb M er =
-      let d : 1 - a ≡ digit (not (paper .dec (up m) (w .s) .1)) =
-      rw (ea, pairs (up m) (w .s) .side) (other-digit (paper .dec (up m) (w .s) .1))
-      in
-      rw (er, eb, one-more (up m) p q (1 - a) eq, d, M .lowest, M .marks, ep)
+      let d : a ≡ digit (not (paper .dec (up m) (w .s) .1)) = ea ∙ turned-round (w .s) (up m) in
+      rw (er, eb, one-more (up m) p q a eq, d, M .lowest, M .marks, ep)
 
   abbrev pub switches : List ℕ → ℕ → ℕ → List ℕ → List ℕ
   switches bits b n xs = act (λ p. o + paper .enc (up m) p) bits b n xs
