@@ -35,6 +35,10 @@ under b z x e l =
 pub under-test : (b : Bool) (x : ℕ) → x < 65536 → bitAnd x (boolByte b * 65535) ≡ cond b x 0
 under-test b x l = rw (digit-byte b, masked 16 65535 refl (digit b) x (digit-small b) l, digit-is b)
 
+pub test-below : (b : Bool) (x n : ℕ) → x < n → cond b x 0 < n
+test-below true x n h = h
+test-below false x n h = omega arith
+
 -- ---- look: what has been gathered of the m places when i of them have passed
 
 unfoldable pub Looked : List ℕ → ℕ → ℕ → ℕ → ℕ → ℕ
@@ -206,6 +210,13 @@ low-step good k i y h l e = go (ℕ-discrete (firstBad good i) i) (good i) refl
         let s = bad-stays good i (omega arith) in
         rw (ne-eqb (firstBad good i) i f, ne-eqb (firstBad good (i + 1)) (i + 1) (λ q. omega (arith, s)), s, lt-ltb (firstBad good i) y (omega (arith, e)))
 
+-- no step goes past k
+pub low-within : (good : ℕ → Bool) (k i : ℕ) → i ≤ k → lowOf good k i ≤ k
+low-within good k i h = elim (ℕ-discrete (firstBad good i) i) [
+  | yes e ↦ rw (eq-eqb (firstBad good i) i e) (omega arith)
+  | no e ↦ rw (ne-eqb (firstBad good i) i e) (omega (arith, bad-within good i))
+]
+
 pub low-all : (good : ℕ → Bool) (k : ℕ) → lowOf good k k ≡ firstBad good k
 low-all good k = elim (ℕ-discrete (firstBad good k) k) [
   | yes e ↦ rw (eq-eqb (firstBad good k) k e) (sym e)
@@ -254,6 +265,11 @@ module _ (m₀ : List ℕ) (k p : ℕ) (l : k ≤ length m₀) (b : Below 2 m₀
       small : (t : Bool) (x : ℕ) → x < 2 → cond t 1 x < 2
       small true x q = omega arith
       small false x q = q
+
+  -- the mark written is the one that will stand
+  pub mark-digit : (marks : List ℕ) (c i : ℕ) → c ≡ i → i < k → marks ≡ store (λ j. j) i p 1 m₀
+      → bitOr (getD marks i 0) (boolByte (eqb c p)) ≡ digit (marked final i)
+  mark-digit marks c i ec h e = mark-byte marks c i ec e ∙ mark-shows marks i h e
 
 -- ---- all places
 

@@ -59,18 +59,28 @@ pub fn pick(s: u16, a: u16, b: u16) -> u16
     (a & m) | (b & (65535 - m))
 }
 
-// The greater of two, and the smaller, by a mask. The compiler knows this form: it makes a maximum and a minimum of these,
-// so that a sweep takes several places at a time. By `at_least` it would take one.
+// 1 where a is below b, else 0, by a comparison of signed numbers: with `pick` it is what the compiler knows as a maximum or
+// a minimum, and of signed numbers the machine has one for several places at a time. By `at_least` it would take one.
+fn less(a: u16, b: u16) -> u16
+    requires { ⌜ (a < 32768) × (b < 32768) ⌝ }
+    ensures { λ r. ⌜ r ≡ digit (ltb a b) ⌝ }
+{
+    ((a as i16) < (b as i16)) as u16
+}
+
+// The greater of two, and the smaller, by a mask.
 fn most(a: u16, b: u16) -> u16
+    requires { ⌜ (a < 32768) × (b < 32768) ⌝ }
     ensures { λ r. ⌜ r ≡ cond (ltb a b) b a ⌝ }
 {
-    pick((a < b) as u16, b, a)
+    pick(less(a, b), b, a)
 }
 
 fn least(a: u16, b: u16) -> u16
+    requires { ⌜ (a < 32768) × (b < 32768) ⌝ }
     ensures { λ r. ⌜ r ≡ cond (ltb a b) a b ⌝ }
 {
-    pick((a < b) as u16, a, b)
+    pick(less(a, b), a, b)
 }
 
 fn wide(x: u8) -> u16

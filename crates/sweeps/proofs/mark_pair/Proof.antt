@@ -3,18 +3,15 @@
 use native.Mathlib.Omega.{arith}
 use borrow.Author.Needs.{needs}
 use mathlib.Core.Path.{_≡_, refl, sym, ap, _∙_}
-use mathlib.Core.Bool.{cond}
 use Prim.Native.Nat.{ℕ, _-_, _≤_}
 use lib.Dec.{eqb}
 use lib.ListN.{length, getD, length-set}
 use Rattle.steps.specs.Steps.{digit}
 use Rattle.steps.specs.Sweeps.{store, marked}
 use Rattle.sweeps.proofs.Numbers.{digit-small, byte-small}
-use Rattle.sweeps.proofs.Places.{store-none, store-step, lowOf, low-step, low-all, final, mark-byte, mark-shows}
+use Rattle.sweeps.proofs.Places.{store-none, store-step, lowOf, low-step, low-within, low-all, final, mark-byte, mark-digit}
 use Rattle.answers.specs.Questions.{firstBad, firstBadFrom}
 use mathlib.Core.List.{List}
-use mir.Val.{boolByte}
-use lib.Bits.{bitOr}
 use Rattle.sweeps.proofs.mark_pair.Statement.{statement}
 use Rattle.sweeps.proofs.mark_pair.Tie as tie
 
@@ -48,25 +45,27 @@ mul-least c =
     let l = c .before .before .before .loop in
     let a = c .before .before .before .before .before in
     let m = a .args .marks .now in
-    let y : bitOr (getD (l .marks) (l .i) 0) (boolByte (eqb (l .c) (a .args .p))) ≡ cond (eqb (l .i) (a .args .p)) 1 (getD (l .marks) (l .i) 0) =
-    mark-byte m (a .args .k) (a .args .p) (a .pre .1) (a .pre .2) (l .marks) (l .c) (l .i) (l .inv .0 .2) (l .inv .1)
-    in
-    let d = mark-shows m (a .args .k) (a .args .p) (a .pre .1) (a .pre .2) (l .marks) (l .i) (omega arith) (l .inv .1) in
-    omega (arith, c .wide .ensures ∙ y ∙ d, digit-small (marked (final m (a .args .k) (a .args .p) (a .pre .1) (a .pre .2)) (l .i)))
+    let d = mark-digit m (a .args .k) (a .args .p) (a .pre .1) (a .pre .2) (l .marks) (l .c) (l .i) (l .inv .0 .2) (omega arith) (l .inv .1) in
+    omega (arith, c .wide .ensures ∙ d, digit-small (marked (final m (a .args .k) (a .args .p) (a .pre .1) (a .pre .2)) (l .i)))
 
 add-least : tie.Need-add-least Inv-loop μ-loop
 add-least c =
     let l = c .before .before .before .loop in
     let a = c .before .before .before .before .before in
     let m = a .args .marks .now in
-    let y : bitOr (getD (l .marks) (l .i) 0) (boolByte (eqb (l .c) (a .args .p))) ≡ cond (eqb (l .i) (a .args .p)) 1 (getD (l .marks) (l .i) 0) =
-    mark-byte m (a .args .k) (a .args .p) (a .pre .1) (a .pre .2) (l .marks) (l .c) (l .i) (l .inv .0 .2) (l .inv .1)
-    in
-    let d = mark-shows m (a .args .k) (a .args .p) (a .pre .1) (a .pre .2) (l .marks) (l .i) (omega arith) (l .inv .1) in
-    omega (arith, c .wide .ensures ∙ y ∙ d, digit-small (marked (final m (a .args .k) (a .args .p) (a .pre .1) (a .pre .2)) (l .i)))
+    let d = mark-digit m (a .args .k) (a .args .p) (a .pre .1) (a .pre .2) (l .marks) (l .c) (l .i) (l .inv .0 .2) (omega arith) (l .inv .1) in
+    omega (arith, c .wide .ensures ∙ d, digit-small (marked (final m (a .args .k) (a .args .p) (a .pre .1) (a .pre .2)) (l .i)))
 
 least-requires : tie.Need-least-requires Inv-loop μ-loop
-least-requires c κs = search needs
+least-requires c κs =
+    let l = c .before .before .before .loop in
+    let a = c .before .before .before .before .before in
+    let m = a .args .marks .now in
+    let good = marked (final m (a .args .k) (a .args .p) (a .pre .1) (a .pre .2)) in
+    let d = mark-digit m (a .args .k) (a .args .p) (a .pre .1) (a .pre .2) (l .marks) (l .c) (l .i) (l .inv .0 .2) (omega arith) (l .inv .1) in (
+      omega (arith, l .inv .2, low-within good (a .args .k) (l .i) (omega arith)),
+      omega (arith, c .wide .ensures ∙ d, digit-small (good (l .i))),
+    )
 
 add-c : tie.Need-add-c Inv-loop μ-loop
 add-c c = omega arith
@@ -82,11 +81,9 @@ loop-again c =
     let l = c .before .before .before .before .loop in
     let a = c .before .before .before .before .before .before in
     let m = a .args .marks .now in
-    let y : bitOr (getD (l .marks) (l .i) 0) (boolByte (eqb (l .c) (a .args .p))) ≡ cond (eqb (l .i) (a .args .p)) 1 (getD (l .marks) (l .i) 0) =
-    mark-byte m (a .args .k) (a .args .p) (a .pre .1) (a .pre .2) (l .marks) (l .c) (l .i) (l .inv .0 .2) (l .inv .1)
-    in
-    let d = mark-shows m (a .args .k) (a .args .p) (a .pre .1) (a .pre .2) (l .marks) (l .i) (omega arith) (l .inv .1) in
-    let w : c .before .wide .result ≡ digit (marked (store (λ j. j) (a .args .k) (a .args .p) 1 m) (l .i)) = c .before .wide .ensures ∙ y ∙ d in (
+    let y = mark-byte m (a .args .k) (a .args .p) (a .pre .1) (a .pre .2) (l .marks) (l .c) (l .i) (l .inv .0 .2) (l .inv .1) in
+    let d = mark-digit m (a .args .k) (a .args .p) (a .pre .1) (a .pre .2) (l .marks) (l .c) (l .i) (l .inv .0 .2) (omega arith) (l .inv .1) in
+    let w : c .before .wide .result ≡ digit (marked (store (λ j. j) (a .args .k) (a .args .p) 1 m) (l .i)) = c .before .wide .ensures ∙ d in (
       (omega arith, simp length-set (l .inv .0 .1), omega arith),
       rw y (store-step (λ j. j) (l .marks) m (l .i) (a .args .p) 1 (l .inv .1)),
       rw (c .least .ensures, l .inv .2)

@@ -8,7 +8,7 @@ use Prim.Native.Nat.{_+_, _-_, _≤_}
 use lib.Dec.{ltb, eqb}
 use lib.ListN.{getD}
 use Rattle.sweeps.proofs.Numbers.{digit-small, byte-small}
-use Rattle.sweeps.proofs.Places.{under-test, Best, seek-none, seek-step, found-within, seek-all}
+use Rattle.sweeps.proofs.Places.{under-test, test-below, Best, seek-none, seek-step, found-within, seek-all}
 use Rattle.sweeps.proofs.seek_for.Statement.{statement}
 use Rattle.sweeps.proofs.seek_for.Tie as tie
 
@@ -37,7 +37,11 @@ mask-requires : tie.Need-mask-requires Inv-loop μ-loop
 mask-requires c κs = omega (arith, byte-small (eqb (getD (c .before .before .before .before .args .xs .now) (c .before .before .before .before .args .o + c .before .before .loop .i) 0) (c .before .before .before .before .args .a)))
 
 most-requires : tie.Need-most-requires Inv-loop μ-loop
-most-requires c κs = search needs
+most-requires c κs =
+    let l = c .before .before .before .loop in
+    let a = c .before .before .before .before .before .args in
+    let b = eqb (getD (a .xs .now) (a .o + l .i) 0) (a .a) in
+    (rw (c .mask .ensures, under-test b (l .c) (omega arith)) (test-below b (l .c) 32768 (omega arith)), omega (arith, l .inv .1 .small))
 
 add-c : tie.Need-add-c Inv-loop μ-loop
 add-c c = omega arith
