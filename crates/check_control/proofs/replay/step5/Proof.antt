@@ -1,0 +1,47 @@
+-- `check_control::replay::step5` meets its contract.
+-- Assumes nothing.
+use borrow.Author.Needs.{needs}
+use Prim.Native.Nat.{_-_, _≤_}
+use Rattle.check_control.proofs.replay.step5.Statement.{statement}
+use Rattle.check_control.proofs.replay.step5.Tie as tie
+
+abbrev Inv-loop : tie.InvT-loop
+Inv-loop vals₀ trails₀ o m k p₀ vals trails p = p ≤ m
+
+abbrev μ-loop : tie.MeasureT-loop
+μ-loop vals₀ trails₀ o m k p₀ vals trails p = m - p
+
+up-requires : tie.Need-up-requires Inv-loop μ-loop
+up-requires c κs = search needs
+
+loop-holds : tie.Need-loop-holds Inv-loop μ-loop
+loop-holds c = search needs
+
+gain-requires : tie.Need-gain-requires Inv-loop μ-loop
+gain-requires c κs = search needs
+
+add-p : tie.Need-add-p Inv-loop μ-loop
+add-p c = search needs
+
+loop-less : tie.Need-loop-less Inv-loop μ-loop
+loop-less c = search needs
+
+loop-again : tie.Need-loop-again Inv-loop μ-loop
+loop-again c = search needs
+
+returns : tie.Need-returns Inv-loop μ-loop
+returns c = search needs
+
+pub step5-spec : {M : Type 1} → statement M
+step5-spec =
+    tie.close
+    (tie.spec
+    Inv-loop
+    μ-loop
+    up-requires
+    loop-holds
+    gain-requires
+    add-p
+    loop-less
+    loop-again
+    returns)
