@@ -221,7 +221,7 @@ pub fn run(
     }
 }
 
-// ---- pseudo-random bytes, and comparing
+// ---- pseudo-random bytes
 
 fn random(x: u32) -> u32 {
     (x % 65537 * 75 + 74) % 65537
@@ -244,30 +244,4 @@ fn byte(x: u32, limit: u32) -> u8 {
     }
     let y = x % limit % 256;
     y as u8
-}
-
-pub fn same_bytes(a: &[u8], b: &[u8]) -> bool {
-    let mut i = 0;
-    while i < a.len() {
-        if a[i] != bit(b, i) {
-            return false;
-        }
-        i += 1;
-    }
-    a.len() == b.len()
-}
-
-fn word(a: &[u16], i: usize) -> u16 {
-    if i < a.len() { a[i] } else { 0 }
-}
-
-pub fn same_words(a: &[u16], b: &[u16]) -> bool {
-    let mut i = 0;
-    while i < a.len() {
-        if a[i] != word(b, i) {
-            return false;
-        }
-        i += 1;
-    }
-    a.len() == b.len()
 }

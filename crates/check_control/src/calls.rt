@@ -8,14 +8,6 @@ fn least(a: usize, b: usize) -> usize
     if a < b { a } else { b }
 }
 
-pub fn answer(number: usize, place: usize, count: usize) -> Answer {
-    Answer {
-        number,
-        place,
-        count,
-    }
-}
-
 pub fn set(
     order: &[u16],
     n: usize,

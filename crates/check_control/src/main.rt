@@ -10,21 +10,6 @@ mod setter;
 use answers::Answer;
 use tally::Tally;
 
-// What was compared, how many entries were run, how many settings were canonical.
-struct Run {
-    tally: Tally,
-    entries: u64,
-    canonical: u64,
-}
-
-fn start() -> Run {
-    Run {
-        tally: tally::none(),
-        entries: 0,
-        canonical: 0,
-    }
-}
-
 fn alike(a: &[u8; 9217], b: &[u8; 9217]) -> bool {
     check::same(a, b)
 }
@@ -42,7 +27,7 @@ fn same_words(t: Tally, a: &[u16; 49152], b: &[u16; 49152]) -> Tally {
 }
 
 fn accepted(t: Tally, x: Answer, count: usize) -> Tally {
-    tally::tallied(t, tally::same_answer(x, calls::answer(0, 0, count)))
+    tally::tallied(t, tally::same_answer(x, answers::accept(count)))
 }
 
 // ---- one order
@@ -59,15 +44,13 @@ fn carry(
     let mut home = [0u8; 262144];
     let mut away = [0u8; 262144];
     let mut blocks = [0u8; 262144];
-    orders::fill(&mut home, calls::times(n, width), 31);
-    orders::fill(&mut blocks, calls::times(n, width), 31);
+    orders::fill(&mut home, calls::times(n, width));
+    orders::fill(&mut blocks, calls::times(n, width));
     orders::scatter(&mut away, &home, order, n, width);
     let x = calls::mix(n, width, &mut blocks, bits, w, false);
-    let t1 = accepted(t, x, w);
-    let t2 = same_blocks(t1, &blocks, &away);
+    let t1 = same_blocks(accepted(t, x, w), &blocks, &away);
     let y = calls::mix(n, width, &mut blocks, bits, w, true);
-    let t3 = accepted(t2, y, w);
-    same_blocks(t3, &blocks, &home)
+    same_blocks(accepted(t1, y, w), &blocks, &home)
 }
 
 fn carry_widths(t: Tally, order: &[u16; 1024], n: usize, bits: &[u8; 9217], w: usize) -> Tally {
@@ -83,174 +66,158 @@ fn sheet(t: Tally, n: usize, bits: &[u8; 9217], w: usize, old: u8) -> Tally {
     let mut back = [old; 9217];
     let x = calls::write_sheet(n, bits, w, &mut s);
     let y = calls::read_sheet(&s, x.count, &mut back);
-    let t1 = accepted(t, y, n);
-    same_bits(t1, &back, bits)
+    same_bits(accepted(t, y, n), &back, bits)
 }
 
-// The log of a set, run from the order: bits that were all 0 become the setting.
+// The log of a set, run from the order and bits that are 0, gives the bits.
 fn rerun(
-    r: Run,
+    t: Tally,
     order: &[u16; 1024],
     nets: &[usize; 12288],
     bits: &[u8; 9217],
     log: &[u16; 49152],
     old: u8,
-) -> Run {
-    let w = nets::of(nets, 0, nets::BITS);
+) -> Tally {
     let mut again = [old; 9217];
-    setter::clear(&mut again, w);
-    let known = replay::run(
-        order,
-        nets,
-        log,
-        nets::of(nets, 0, nets::ENTRIES),
-        &mut again,
-    );
-    let t = r.tally;
-    Run {
-        tally: same_bits(t, &again, bits),
-        entries: std::num::wrapping_add_u64(r.entries, known),
-        canonical: r.canonical,
+    let w = nets::of(nets, 0, nets::BITS);
+    let mut i = 0;
+    while i < w {
+        setter::put_bit(&mut again, i, false);
+        i += 1;
     }
+    let entries = nets::of(nets, 0, nets::ENTRIES);
+    let known = replay::run(order, nets, log, entries, &mut again);
+    same_bits(tally::tallied(t, known == entries), &again, bits)
 }
 
-fn with(r: Run, t: Tally) -> Run {
-    Run {
-        tally: t,
-        entries: r.entries,
-        canonical: r.canonical,
-    }
+fn wide(x: u8) -> u16 {
+    x as u16
 }
 
 // Set into buffers full of `old`: the answer, all the bits and all the words of the log.
 fn set(
-    r: Run,
+    t: Tally,
     order: &[u16; 1024],
     n: usize,
     nets: &[usize; 12288],
     bits: &mut [u8; 9217],
     old: u8,
-) -> Run {
+) -> Tally {
     let w = nets::of(nets, 0, nets::BITS);
     let entries = nets::of(nets, 0, nets::ENTRIES);
     let mut plain = [old; 9217];
-    let mut log = [widened(old); 49152];
-    let mut right = [widened(old); 49152];
+    let mut log = [wide(old); 49152];
+    let mut right = [wide(old); 49152];
     let x = calls::set(order, n, bits, w, &mut log, entries % 16384 * 3 + 2);
     setter::set(order, nets, &mut plain);
     nets::write_all(&mut right, nets);
-    let t = r.tally;
-    let t1 = accepted(t, x, entries);
-    let t2 = same_bits(t1, bits, &plain);
-    let t3 = same_words(t2, &log, &right);
-    rerun(with(r, t3), order, nets, &plain, &log, old)
+    let t1 = same_bits(accepted(t, x, entries), bits, &plain);
+    rerun(same_words(t1, &log, &right), order, nets, &plain, &log, old)
 }
 
-fn widened(x: u8) -> u16 {
-    x as u16
-}
-
-fn order(r: Run, order: &[u16; 1024], n: usize, nets: &[usize; 12288], old: u8) -> Run {
+fn check_order(t: Tally, order: &[u16; 1024], n: usize, nets: &[usize; 12288], old: u8) -> Tally {
     let w = nets::of(nets, 0, nets::BITS);
     let mut bits = [old; 9217];
-    let r1 = set(r, order, n, nets, &mut bits, old);
-    let t = r1.tally;
-    let t1 = sheet(t, n, &bits, w, old);
-    with(r1, carry_widths(t1, order, n, &bits, w))
+    let t1 = set(t, order, n, nets, &mut bits, old);
+    carry_widths(sheet(t1, n, &bits, w, old), order, n, &bits, w)
 }
 
-// ---- orders
+// ---- orders and settings
 
-fn all_orders(before: Run, n: usize) -> Run {
+// What was compared; among settings, how many of them are canonical.
+struct Run {
+    checks: Tally,
+    canonical: Tally,
+}
+
+fn start() -> Run {
+    Run {
+        checks: tally::none(),
+        canonical: tally::none(),
+    }
+}
+
+// The order that a setting carries is set: that carries the same order, and is the setting itself where it is canonical.
+fn check_setting(r: Run, n: usize, nets: &[usize; 12288], bits: &[u8; 9217]) -> Run {
+    let w = nets::of(nets, 0, nets::BITS);
+    let e = orders::carried(n, bits, w);
+    let mut canonical = [0u8; 9217];
+    let t = r.checks;
+    let t1 = set(t, &e, n, nets, &mut canonical, 0);
+    let again = orders::carried(n, &canonical, w);
+    let c = r.canonical;
+    Run {
+        checks: tally::tallied(t1, tally::same_words(&e, &again)),
+        canonical: tally::tallied(c, alike(&canonical, bits)),
+    }
+}
+
+// Orders or settings number 1 to `count` of n places.
+fn check_orders(before: Tally, n: usize, count: u32, random: bool) -> Tally {
     let nets = nets::list(n);
-    let mut r = before;
-    let total = orders::factorial(n);
+    let mut t = before;
     let mut c = 0;
-    while c < total {
-        let e = orders::numbered(c, n);
-        r = order(r, &e, n, &nets, (c % 256) as u8);
+    while c < count {
         c += 1;
+        let e = orders::order(c, n, random);
+        t = check_order(t, &e, n, &nets, (c % 256) as u8);
     }
-    r
+    t
 }
 
-fn small_orders() -> Run {
-    let mut r = start();
-    let mut n = 0;
-    while n < 7 {
-        r = all_orders(r, n);
-        n += 1;
-    }
-    r
-}
-
-fn drawn_orders(before: Run, n: usize, count: u32) -> Run {
+fn check_settings(before: Run, n: usize, count: u32) -> Run {
     let nets = nets::list(n);
     let mut r = before;
     let mut c = 0;
     while c < count {
-        let e = orders::drawn(c % 65536 * 7 + 1, n);
-        r = order(r, &e, n, &nets, (c % 256) as u8);
         c += 1;
+        let bits = orders::setting(c, nets::of(&nets, 0, nets::BITS));
+        r = check_setting(r, n, &nets, &bits);
     }
     r
 }
+
+const FACTORIALS: [u32; 7] = [1, 1, 2, 6, 24, 120, 720];
+
+const SETTINGS: [u32; 7] = [1, 1, 2, 8, 32, 256, 2048];
 
 const SIZES: [usize; 12] = [7, 23, 127, 128, 255, 256, 257, 258, 259, 1000, 1023, 1024];
 
-fn large_orders() -> Run {
-    let mut r = start();
+fn small_orders() -> Tally {
+    let mut t = tally::none();
+    let mut n = 0;
+    while n < 7 {
+        t = check_orders(t, n, FACTORIALS[n], false);
+        n += 1;
+    }
+    t
+}
+
+fn large_orders() -> Tally {
+    let mut t = tally::none();
     let mut i = 0;
     while i < 12 {
-        r = drawn_orders(r, SIZES[i], 25);
+        t = check_orders(t, SIZES[i], 25, true);
         i += 1;
     }
-    r
-}
-
-// ---- settings
-
-// The order that a setting carries, set: the bits carry that order too, and are the setting itself where it is canonical.
-fn setting(r: Run, n: usize, nets: &[usize; 12288], bits: &[u8; 9217]) -> Run {
-    let w = nets::of(nets, 0, nets::BITS);
-    let e = orders::carried(n, bits, w);
-    let mut canonical = [0u8; 9217];
-    let r1 = set(r, &e, n, nets, &mut canonical, 0);
-    let again = orders::carried(n, &canonical, w);
-    let t = r1.tally;
-    Run {
-        tally: tally::tallied(t, tally::same_words(&e, &again)),
-        entries: r1.entries,
-        canonical: std::num::wrapping_add_u64(r1.canonical, alike(&canonical, bits) as u64),
-    }
-}
-
-fn all_settings(before: Run, n: usize, total: usize) -> Run {
-    let nets = nets::list(n);
-    let mut r = before;
-    let mut c = 0;
-    while c < total {
-        let bits = orders::numbered_bits(c);
-        r = setting(r, n, &nets, &bits);
-        c += 1;
-    }
-    r
+    t
 }
 
 fn small_settings() -> Run {
-    let r2 = all_settings(all_settings(all_settings(start(), 0, 1), 1, 1), 2, 2);
-    let r4 = all_settings(all_settings(r2, 3, 8), 4, 32);
-    all_settings(all_settings(r4, 5, 256), 6, 2048)
+    let mut r = start();
+    let mut n = 0;
+    while n < 7 {
+        r = check_settings(r, n, SETTINGS[n]);
+        n += 1;
+    }
+    r
 }
 
 fn large_settings() -> Run {
     let mut r = start();
     let mut i = 0;
     while i < 12 {
-        let n = SIZES[i];
-        let nets = nets::list(n);
-        let bits = orders::random_bits((i as u32) + 5, nets::of(&nets, 0, nets::BITS));
-        r = setting(r, n, &nets, &bits);
+        r = check_settings(r, SIZES[i], 2);
         i += 1;
     }
     r
@@ -258,62 +225,38 @@ fn large_settings() -> Run {
 
 // ---- what is printed
 
-fn line(label: &[u8], x: u64) {
-    io::write_all(1, label);
-    io::print_decimal(1, x);
-    io::write_all(1, b"\n");
-}
-
-fn print_orders(label: &[u8], r: Run) {
-    let t = r.tally;
-    tally::print(label, t);
-    line(b"  entries run again: ", r.entries);
-}
-
 fn print_settings(label: &[u8], r: Run) {
-    print_orders(label, r);
-    line(b"  canonical among them: ", r.canonical);
-}
-
-fn digit(x: u8) -> u64 {
-    x as u64
-}
-
-fn print_bits(bits: &[u8; 9217], w: usize) {
-    let mut i = 0;
-    while i < w {
-        io::print_decimal(1, digit(bits[i % 9217]));
-        i += 1;
-    }
-    io::write_all(1, b"\n");
+    let t = r.checks;
+    let c = r.canonical;
+    tally::print(label, t);
+    tally::print(b"  and with the canonical one", c);
 }
 
 // Order (0,3,2,1,4). Its last pair holds its own associates and is a ring by itself; pairs 0 and 1 are the other ring, in
 // which pair 0 has bit 0 and so pair 1 bit 1. Where the last pair with a switch counted as bit 0 they would be 1 and 0.
-fn print_telling() {
-    let mut e = [0u16; 1024];
-    e[1] = 3;
-    e[2] = 2;
-    e[3] = 1;
-    e[4] = 4;
-    let mut bits = [0u8; 9217];
-    let mut log = [0u16; 49152];
-    calls::set(&e, 5, &mut bits, 8, &mut log, 75);
-    io::write_all(1, b"order 0 3 2 1 4: ");
-    print_bits(&bits, 8);
+fn telling() -> Tally {
+    let order = [0u16, 3, 2, 1, 4];
+    let right = [0u8, 1, 0, 0, 0, 1, 0, 1];
+    let mut bits = [7u8; 8];
+    let mut log = [0u16; 75];
+    let x = control::control_bits(&order, &mut bits, &mut log);
+    tally::tallied(accepted(tally::none(), x, 25), check::same(&bits, &right))
 }
 
 fn main() {
-    print_orders(b"all orders of up to 6 places", small_orders());
-    print_orders(b"25 drawn orders at each of 12 sizes", large_orders());
+    tally::print(b"all orders of up to 6 places", small_orders());
+    tally::print(
+        b"25 drawn orders at each of 12 sizes up to 1024",
+        large_orders(),
+    );
     print_settings(
-        b"all settings of up to 6 places, their orders set",
+        b"orders of all settings of up to 6 places",
         small_settings(),
     );
     print_settings(
-        b"a drawn setting at each of 12 sizes, its order set",
+        b"orders of 2 drawn settings at each of 12 sizes",
         large_settings(),
     );
-    tally::print(b"refusals", refusals::all());
-    print_telling();
+    tally::print(b"order 0 3 2 1 4", telling());
+    tally::print(b"refusals of set", refusals::all());
 }

@@ -1,7 +1,8 @@
 // The networks within a network of n places, listed without recursion, as a heap: the halves of network j are networks
-// 2j + 1 (top) and 2j + 2 (bottom). Sizes go down the heap, counts of bits and entries come up, and the positions of the
-// first bit and the first entry go down again. And the setter's log, written out from that list.
+// 2j + 1 (top) and 2j + 2 (bottom). And the setter's log, written out from that list.
 
+// Fields of a network: its first place, how many places, the position of its first bit, how many bits, the number of its
+// first entry, how many entries.
 pub const START: usize = 0;
 
 pub const SIZE: usize = 1;
@@ -18,7 +19,6 @@ pub fn add(a: usize, b: usize) -> usize {
     std::num::wrapping_add_usize(a, b)
 }
 
-// A field of network j.
 pub fn of(nets: &[usize; 12288], j: usize, field: usize) -> usize {
     nets[j % 2048 * 6 + field % 6]
 }
@@ -27,103 +27,82 @@ fn put(nets: &mut [usize; 12288], j: usize, field: usize, x: usize) {
     nets[j % 2048 * 6 + field % 6] = x;
 }
 
-fn top(j: usize) -> usize {
-    j % 1023 * 2 + 1
-}
-
-fn bottom(j: usize) -> usize {
-    j % 1023 * 2 + 2
-}
-
 // m/2 rounded up.
 pub fn up(m: usize) -> usize {
     m - m / 2
 }
 
-fn halve(nets: &mut [usize; 12288], j: usize) {
-    let o = of(nets, j, START);
-    let m = of(nets, j, SIZE);
-    put(nets, top(j), START, o);
-    put(nets, top(j), SIZE, up(m));
-    put(nets, bottom(j), START, add(o, up(m)));
-    put(nets, bottom(j), SIZE, m / 2);
-}
-
-fn halve_all(nets: &mut [usize; 12288]) {
-    let mut j = 0;
-    while j < 1023 {
-        halve(nets, j);
-        j += 1;
-    }
-}
-
-// How many entries of a network stand before those of its halves: steps 1, 2, 3 for each pair, 4, 5; for two places 5.
+// How many entries of a network of m places stand before those of its halves: steps 1, 2, 3 for each pair, 4, 5; for two
+// places step 5 alone.
 fn entries_before(m: usize) -> usize {
-    if m == 2 {
-        return 1;
+    if m == 2 { 1 } else { up(m) % 1024 * 3 + 2 }
+}
+
+// At 2m how many bits m places have, at 2m + 1 how many entries: from the counts of the halves, smallest first.
+fn counts() -> [usize; 2050] {
+    let mut c = [0usize; 2050];
+    let mut m = 2;
+    while m < 1025 {
+        let k = m - m / 2;
+        let h = m / 2;
+        c[m * 2] = add(m - 1, add(c[k * 2], c[h * 2]));
+        c[m * 2 + 1] = add(add(entries_before(m), 1), add(c[k * 2 + 1], c[h * 2 + 1]));
+        m += 1;
     }
-    up(m) % 1024 * 3 + 2
+    c
 }
 
-// The sum of a field over the halves of network j.
-fn both(nets: &[usize; 12288], j: usize, field: usize) -> usize {
-    add(of(nets, top(j), field), of(nets, bottom(j), field))
+fn net(
+    nets: &mut [usize; 12288],
+    counts: &[usize; 2050],
+    j: usize,
+    o: usize,
+    m: usize,
+    bit: usize,
+    entry: usize,
+) {
+    put(nets, j, START, o);
+    put(nets, j, SIZE, m);
+    put(nets, j, BIT, bit);
+    put(nets, j, BITS, counts[m % 1025 * 2]);
+    put(nets, j, ENTRY, entry);
+    put(nets, j, ENTRIES, counts[m % 1025 * 2 + 1]);
 }
 
-fn count(nets: &mut [usize; 12288], j: usize) {
+// The halves: the top behind what the network has before them, the bottom behind the top.
+fn halve(nets: &mut [usize; 12288], counts: &[usize; 2050], j: usize) {
     let m = of(nets, j, SIZE);
     if m < 2 {
         return;
     }
-    let bits = both(nets, j, BITS);
-    let entries = both(nets, j, ENTRIES);
-    put(nets, j, BITS, add(m - 1, bits));
-    put(
+    let k = m - m / 2;
+    let t = j % 1023 * 2 + 1;
+    let o = of(nets, j, START);
+    let bit = add(of(nets, j, BIT), k - 1);
+    let entry = add(of(nets, j, ENTRY), entries_before(m));
+    net(nets, counts, t, o, k, bit, entry);
+    let bits = of(nets, t, BITS);
+    let entries = of(nets, t, ENTRIES);
+    net(
         nets,
-        j,
-        ENTRIES,
-        add(entries_before(m) % 65536 + 1, entries),
+        counts,
+        t + 1,
+        add(o, k),
+        m / 2,
+        add(bit, bits),
+        add(entry, entries),
     );
 }
 
-fn count_all(nets: &mut [usize; 12288]) {
-    let mut left: usize = 1023;
-    while 0 < left {
-        left -= 1;
-        count(nets, left);
-    }
-}
-
-// The halves' first bits and entries: behind what the network has before its halves, then behind the top's.
-fn place(nets: &mut [usize; 12288], j: usize) {
-    let m = of(nets, j, SIZE);
-    if m < 2 {
-        return;
-    }
-    let bit = add(of(nets, j, BIT), before(up(m)));
-    let entry = add(of(nets, j, ENTRY), entries_before(m));
-    let bits = of(nets, top(j), BITS);
-    let entries = of(nets, top(j), ENTRIES);
-    put(nets, top(j), BIT, bit);
-    put(nets, bottom(j), BIT, add(bit, bits));
-    put(nets, top(j), ENTRY, entry);
-    put(nets, bottom(j), ENTRY, add(entry, entries));
-}
-
-fn place_all(nets: &mut [usize; 12288]) {
+pub fn list(n: usize) -> [usize; 12288] {
+    let counts = counts();
+    let mut nets = [0usize; 12288];
+    net(&mut nets, &counts, 0, 0, n, 0, 0);
     let mut j = 0;
     while j < 1023 {
-        place(nets, j);
+        halve(&mut nets, &counts, j);
         j += 1;
     }
-}
-
-pub fn list(n: usize) -> [usize; 12288] {
-    let mut nets = [0usize; 12288];
-    nets[SIZE] = n;
-    halve_all(&mut nets);
-    count_all(&mut nets);
-    place_all(&mut nets);
     nets
 }
 
@@ -143,28 +122,26 @@ pub fn find(nets: &[usize; 12288], o: usize, m: usize) -> usize {
 
 // ---- the log
 
-fn narrow(x: usize) -> u16 {
-    (x % 65536) as u16
-}
-
 fn write(log: &mut [u16; 49152], e: usize, kind: u16, o: usize, m: usize) {
-    log[e % 16384 * 3] = kind;
-    log[e % 16384 * 3 + 1] = narrow(o);
-    log[e % 16384 * 3 + 2] = narrow(m);
+    let at = e % 16384 * 3;
+    log[at] = kind;
+    log[at + 1] = (o % 65536) as u16;
+    log[at + 2] = (m % 65536) as u16;
 }
 
-// Steps 1, 2, 3 for each of the k pairs, behind entry e.
+// Steps 1, 2, 3 for each of the k pairs, then 4, from entry e on.
 fn write_rounds(log: &mut [u16; 49152], e: usize, o: usize, m: usize) {
     let k = up(m);
+    let mut at = e;
     let mut i = 0;
     while i < k {
-        let at = add(e, i % 1024 * 3);
         write(log, at, 1, o, m);
         write(log, add(at, 1), 2, o, m);
         write(log, add(at, 2), 3, o, m);
+        at = add(at, 3);
         i += 1;
     }
-    write(log, add(e, k % 1024 * 3), 4, o, m);
+    write(log, at, 4, o, m);
 }
 
 fn write_net(log: &mut [u16; 49152], nets: &[usize; 12288], j: usize) {
@@ -177,11 +154,11 @@ fn write_net(log: &mut [u16; 49152], nets: &[usize; 12288], j: usize) {
     if 2 < m {
         write_rounds(log, e, o, m);
     }
-    write(log, before(add(e, entries_before(m))), 5, o, m);
-    write(log, before(add(e, of(nets, j, ENTRIES))), 6, o, m);
+    write(log, less(add(e, entries_before(m))), 5, o, m);
+    write(log, less(add(e, of(nets, j, ENTRIES))), 6, o, m);
 }
 
-pub fn before(x: usize) -> usize {
+pub fn less(x: usize) -> usize {
     if x == 0 { 0 } else { x - 1 }
 }
 

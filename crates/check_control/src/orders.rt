@@ -1,59 +1,67 @@
-// What is set, mixed and returned: orders drawn by words that a counter or a pseudo-random sequence gives, and blocks.
+// What is set, mixed and returned: orders drawn by words that a counter or a pseudo-random sequence gives, settings, and
+// blocks.
 use crate::calls;
 
-pub fn next(x: u32) -> u32 {
+fn next(x: u32) -> u32 {
     let a = x ^ (x << 13);
     let b = a ^ (a >> 17);
     b ^ (b << 5)
 }
 
-// Word i is a digit of c to base n - i: the n! numbers c give each order of n places once.
-fn digits(c: usize, n: usize) -> [u32; 1024] {
-    let mut words = [0u32; 1024];
-    let mut left = c;
-    let mut i = 0;
-    while i < n {
-        let base = n - i;
-        words[i % 1024] = (left % base % 65536) as u32;
-        left = left / base;
-        i += 1;
+fn following(x: u32, base: usize, random: bool) -> u32 {
+    if random {
+        return next(x);
     }
-    words
+    if 1024 < base {
+        return 0;
+    }
+    if base == 0 {
+        return 0;
+    }
+    x / (base as u32)
 }
 
-fn random_words(seed: u32) -> [u32; 1024] {
+// Words for a draw of n places: a pseudo-random sequence from c; or word i is c without its last i digits, to the bases n,
+// n - 1, ..: so n! numbers c in a row give each order once.
+fn words(c: u32, n: usize, random: bool) -> [u32; 1024] {
     let mut words = [0u32; 1024];
-    let mut x = seed;
+    let mut x = c;
+    let mut left = n;
     let mut i = 0;
     while i < 1024 {
-        x = next(x);
         words[i] = x;
+        x = following(x, left, random);
+        left = std::num::wrapping_sub_usize(left, 1);
         i += 1;
     }
     words
 }
 
-// Order number c of n places.
-pub fn numbered(c: usize, n: usize) -> [u16; 1024] {
-    let mut order = [0u16; 1024];
-    calls::draw(n, &digits(c, n), &mut order);
-    order
+pub fn order(c: u32, n: usize, random: bool) -> [u16; 1024] {
+    let mut out = [0u16; 1024];
+    calls::draw(n, &words(c, n, random), &mut out);
+    out
 }
 
-pub fn drawn(seed: u32, n: usize) -> [u16; 1024] {
-    let mut order = [0u16; 1024];
-    calls::draw(n, &random_words(seed), &mut order);
-    order
+// A setting of w bits: the binary digits of c, and behind sixteen of them a pseudo-random sequence.
+pub fn setting(c: u32, w: usize) -> [u8; 9217] {
+    let mut bits = [0u8; 9217];
+    let mut x = c;
+    let mut i = 0;
+    while i < w {
+        bits[i % 9217] = (x % 2) as u8;
+        x = if i < 16 {
+            x / 2
+        } else {
+            next(x % 65536 * 3 + c % 65536)
+        };
+        i += 1;
+    }
+    bits
 }
 
-// How many orders of n places there are; for n at most 6.
-pub fn factorial(n: usize) -> usize {
-    let counts = [1usize, 1, 2, 6, 24, 120, 720];
-    counts[n % 7]
-}
-
-pub fn fill(blocks: &mut [u8; 262144], bytes: usize, seed: u32) {
-    let mut x = seed;
+pub fn fill(blocks: &mut [u8; 262144], bytes: usize) {
+    let mut x: u32 = 31;
     let mut q = 0;
     while q < bytes {
         x = next(x);
@@ -68,8 +76,7 @@ fn move_block(out: &mut [u8; 262144], blocks: &[u8; 262144], from: usize, to: us
     let b = calls::times(to, width);
     let mut i = 0;
     while i < width {
-        let byte = blocks[(a + i % 256) % 262144];
-        out[(b + i % 256) % 262144] = byte;
+        out[(b + i % 256) % 262144] = blocks[(a + i % 256) % 262144];
         i += 1;
     }
 }
@@ -93,34 +100,7 @@ pub fn scatter(
     }
 }
 
-// ---- settings, and the orders that they carry
-
-// The digits of c to base 2.
-pub fn numbered_bits(c: usize) -> [u8; 9217] {
-    let mut bits = [0u8; 9217];
-    let mut left = c;
-    let mut i = 0;
-    while i < 16 {
-        bits[i] = (left % 2) as u8;
-        left = left / 2;
-        i += 1;
-    }
-    bits
-}
-
-pub fn random_bits(seed: u32, w: usize) -> [u8; 9217] {
-    let mut bits = [0u8; 9217];
-    let mut x = seed;
-    let mut i = 0;
-    while i < w {
-        x = next(x);
-        bits[i % 9217] = (x / 4096 % 2) as u8;
-        i += 1;
-    }
-    bits
-}
-
-// The numbers 0 to n - 1 as blocks of two bytes.
+// The numbers 0 to 1,023 as blocks of two bytes.
 fn numbers() -> [u8; 262144] {
     let mut blocks = [0u8; 262144];
     let mut i = 0;
@@ -136,7 +116,7 @@ fn word(low: u8, high: u8) -> u16 {
     low as u16 + (high as u16) * 256
 }
 
-// The order that a setting carries: 0 to n - 1 returned by it, since the place that block i goes to comes back to i.
+// The order that a setting carries: 0 to n - 1 returned by it, since the block at the place that i goes to comes to i.
 pub fn carried(n: usize, bits: &[u8; 9217], w: usize) -> [u16; 1024] {
     let mut blocks = numbers();
     calls::mix(n, 2, &mut blocks, bits, w, true);

@@ -15,7 +15,7 @@ fn refused(
     let mut bits = [7u8; 9217];
     let mut log = [77u16; 49152];
     let x = calls::set(order, n, &mut bits, w, &mut log, words);
-    let t1 = tally::tallied(t, tally::same_answer(x, calls::answer(number, place, 0)));
+    let t1 = tally::tallied(t, tally::same_answer(x, answers::refuse(number, place)));
     let t2 = tally::tallied(t1, check::same(&bits, &[7u8; 9217]));
     tally::tallied(t2, tally::same_words(&log, &[77u16; 49152]))
 }
@@ -61,8 +61,8 @@ fn contents(
 }
 
 fn each_size(t: Tally, seed: u32) -> Tally {
-    let small = orders::drawn(seed, 5);
-    let large = orders::drawn(seed, 1024);
+    let small = orders::order(seed, 5, true);
+    let large = orders::order(seed, 1024, true);
     let t1 = contents(t, &small, 5, 8, 75, 0, 1);
     let t2 = contents(t1, &small, 5, 8, 80, 2, 4);
     let t3 = contents(t2, &large, 1024, 9217, 49143, 0, 1);
@@ -76,13 +76,13 @@ fn too_many(t: Tally) -> Tally {
     let mut bits = [7u8; 16];
     let mut log = [77u16; 16];
     let x = control::control_bits(&order, &mut bits, &mut log);
-    let t1 = tally::tallied(t, tally::same_answer(x, calls::answer(1, 0, 0)));
+    let t1 = tally::tallied(t, tally::same_answer(x, answers::refuse(1, 0)));
     let t2 = tally::tallied(t1, check::same(&bits, &[7u8; 16]));
     tally::tallied(t2, tally::same_words(&log, &[77u16; 16]))
 }
 
 pub fn all() -> Tally {
-    let order = orders::drawn(5, 5);
+    let order = orders::order(5, 5, true);
     let bad = with(&order, 4, 5);
     let t1 = lengths(tally::none(), &order, &bad);
     each_size(too_many(t1), 2026)

@@ -28,7 +28,7 @@ fn inner(k: usize, v: usize) -> usize {
 }
 
 // The value at place p of m places from o. Place m is imagined and holds value m.
-pub fn value(table: &[usize; 1024], o: usize, m: usize, p: usize) -> usize {
+fn value(table: &[usize; 1024], o: usize, m: usize, p: usize) -> usize {
     if p < m { at(table, o, p) } else { m }
 }
 
@@ -72,80 +72,74 @@ fn ring(
 }
 
 // The lower place of the last pair goes to the top, and in each ring without it that of the lowest pair.
-fn find_sides(table: &[usize; 1024], home: &[usize; 1024], o: usize, m: usize) -> [usize; 1024] {
+fn find_sides(table: &[usize; 1024], o: usize, m: usize) -> [usize; 1024] {
+    let home = find_homes(table, o, m);
     let mut side = [0usize; 1024];
     let k = nets::up(m);
-    if k == 0 {
-        return side;
-    }
-    ring(&mut side, table, home, o, m, k - 1);
+    ring(&mut side, table, &home, o, m, nets::less(k));
     let mut i = 0;
     while i < k {
-        ring(&mut side, table, home, o, m, i);
+        ring(&mut side, table, &home, o, m, i);
         i += 1;
     }
     side
 }
 
-// Deals out pair i: one value to the top, its bit where it has a switch, the other value to the bottom; and the output
-// bit of the value that the top brings.
+// Deals out pair i of a network whose first bit and first output bit are given: one value to the top, the other to the
+// bottom, each inside its half; the pair's bit, where it has a switch; the output bit of the value that the top brings.
 fn deal(
     table: &mut [usize; 1024],
     bits: &mut [u8; 9217],
-    nets: &[usize; 12288],
-    j: usize,
+    o: usize,
+    m: usize,
+    first: usize,
+    last: usize,
     i: usize,
     crossed: bool,
 ) {
-    let o = nets::of(nets, j, nets::START);
-    let m = nets::of(nets, j, nets::SIZE);
     let k = nets::up(m);
     let x = value(table, o, m, i);
     let y = value(table, o, m, nets::add(k, i));
     let top = pick(crossed, y, x);
+    let bring = inner(k, top);
+    put(table, o, i, bring);
+    if bring < m / 2 {
+        put_bit(bits, nets::add(last, bring), k <= top);
+    }
     if i < m / 2 {
         put(table, o, nets::add(k, i), inner(k, pick(crossed, x, y)));
     }
-    put(table, o, i, inner(k, top));
-    input_bit(bits, nets, j, i, crossed);
-    output_bit(bits, nets, j, inner(k, top), k <= top);
+    if nets::add(i, 1) < k {
+        put_bit(bits, nets::add(first, i), crossed);
+    }
 }
 
 fn pick(first: bool, x: usize, y: usize) -> usize {
     if first { x } else { y }
 }
 
-// The first k - 1 bits of a network.
-fn input_bit(bits: &mut [u8; 9217], nets: &[usize; 12288], j: usize, i: usize, bit: bool) {
-    let k = nets::up(nets::of(nets, j, nets::SIZE));
-    if nets::add(i, 1) < k {
-        put_bit(bits, nets::add(nets::of(nets, j, nets::BIT), i), bit);
-    }
-}
-
-// The position of the first of a network's output bits: they are the last m - k.
+// The position of a network's first output bit: they are its last m - k.
 pub fn outputs(nets: &[usize; 12288], j: usize) -> usize {
     let end = nets::add(nets::of(nets, j, nets::BIT), nets::of(nets, j, nets::BITS));
     std::num::wrapping_sub_usize(end, nets::of(nets, j, nets::SIZE) / 2)
 }
 
-fn output_bit(bits: &mut [u8; 9217], nets: &[usize; 12288], j: usize, i: usize, bit: bool) {
-    if i < nets::of(nets, j, nets::SIZE) / 2 {
-        put_bit(bits, nets::add(outputs(nets, j), i), bit);
-    }
-}
-
 fn set_net(table: &mut [usize; 1024], bits: &mut [u8; 9217], nets: &[usize; 12288], j: usize) {
     let o = nets::of(nets, j, nets::START);
     let m = nets::of(nets, j, nets::SIZE);
-    let home = find_homes(table, o, m);
-    let side = find_sides(table, &home, o, m);
+    let first = nets::of(nets, j, nets::BIT);
+    let last = outputs(nets, j);
+    let side = find_sides(table, o, m);
     let k = nets::up(m);
     let mut i = 0;
     while i < k {
-        deal(table, bits, nets, j, i, at(&side, 0, i) == 2);
+        deal(table, bits, o, m, first, last, i, at(&side, 0, i) == 2);
         i += 1;
     }
+}
+
+fn wide(x: u16) -> usize {
+    x as usize
 }
 
 pub fn load(order: &[u16; 1024]) -> [usize; 1024] {
@@ -158,10 +152,6 @@ pub fn load(order: &[u16; 1024]) -> [usize; 1024] {
     table
 }
 
-fn wide(x: u16) -> usize {
-    x as usize
-}
-
 // The canonical setting of an order, into the first bits; those behind stay.
 pub fn set(order: &[u16; 1024], nets: &[usize; 12288], bits: &mut [u8; 9217]) {
     let mut table = load(order);
@@ -171,14 +161,5 @@ pub fn set(order: &[u16; 1024], nets: &[usize; 12288], bits: &mut [u8; 9217]) {
             set_net(&mut table, bits, nets, j);
         }
         j += 1;
-    }
-}
-
-// The first w bits become 0.
-pub fn clear(bits: &mut [u8; 9217], w: usize) {
-    let mut i = 0;
-    while i < w {
-        put_bit(bits, i, false);
-        i += 1;
     }
 }

@@ -4,7 +4,7 @@ mod plain;
 mod refusals;
 
 use permutation::Permutation;
-use plain::Tally;
+use tally::Tally;
 ghost use Prim.Native.Nat.{_≤_};
 
 // Every list of n entries from 0 to 5, one for each number below `total`: from a list.
@@ -126,8 +126,8 @@ fn check_shuffle(t: Tally, n: usize, seed: u32) -> Tally
     let mut out = [7u16; 1024];
     let a = shuffle::shuffle(n, &words[..n], &mut out);
     let right = plain::shuffle(&words, n);
-    let t1 = plain::tallied(t, plain::alike(&out, &right));
-    let t2 = plain::tallied(t1, plain::answered(a, 0, 0, n));
+    let t1 = tally::tallied(t, tally::same_words(&out, &right));
+    let t2 = tally::tallied(t1, tally::same_answer(a, answers::accept(n)));
     let e = plain::front(&right, n);
     let other = plain::words(plain::next(seed));
     let s = plain::shuffle(&other, n);
@@ -145,15 +145,6 @@ fn check_shuffles(before: Tally) -> Tally {
         k += 1;
     }
     check_shuffle(t, 1024, seed)
-}
-
-fn print(label: &[u8], t: Tally) {
-    io::write_all(1, label);
-    io::write_all(1, b": compared ");
-    io::print_decimal(1, t.compared);
-    io::write_all(1, b", equal ");
-    io::print_decimal(1, t.equal);
-    io::write_all(1, b"\n");
 }
 
 fn small_lists(t: Tally) -> Tally {
@@ -175,14 +166,14 @@ fn small_permutations(t: Tally) -> Tally {
 }
 
 fn main() {
-    print(b"lists of up to 5 entries", small_lists(plain::none()));
-    print(
+    tally::print(b"lists of up to 5 entries", small_lists(tally::none()));
+    tally::print(
         b"calls on permutations of up to 5 places",
-        small_permutations(plain::none()),
+        small_permutations(tally::none()),
     );
-    print(
+    tally::print(
         b"shuffles of up to 1024 places, and calls on them",
-        check_shuffles(plain::none()),
+        check_shuffles(tally::none()),
     );
-    print(b"refusals", refusals::all(plain::none()));
+    tally::print(b"refusals", refusals::all(tally::none()));
 }

@@ -6,25 +6,25 @@ use Rattle.check_control.proofs.large_orders.Statement.{statement}
 use Rattle.check_control.proofs.large_orders.Tie as tie
 
 abbrev Inv-loop : tie.InvT-loop
-Inv-loop r₀ i₀ r i = i ≤ 12
+Inv-loop t₀ i₀ t i = i ≤ 12
 
 abbrev μ-loop : tie.MeasureT-loop
-μ-loop r₀ i₀ r i = 12 - i
+μ-loop t₀ i₀ t i = 12 - i
 
-start-requires : tie.Need-start-requires Inv-loop μ-loop
-start-requires c κs = search needs
+none-requires : tie.Need-none-requires Inv-loop μ-loop
+none-requires c κs = search needs
 
 loop-holds : tie.Need-loop-holds Inv-loop μ-loop
 loop-holds c = search needs
 
-mul-drawn-orders : tie.Need-mul-drawn-orders Inv-loop μ-loop
-mul-drawn-orders c = search needs
+mul-check-orders : tie.Need-mul-check-orders Inv-loop μ-loop
+mul-check-orders c = search needs
 
-array-read-drawn-orders : tie.Need-array-read-drawn-orders Inv-loop μ-loop
-array-read-drawn-orders c = search needs
+array-read-check-orders : tie.Need-array-read-check-orders Inv-loop μ-loop
+array-read-check-orders c = search needs
 
-drawn-orders-requires : tie.Need-drawn-orders-requires Inv-loop μ-loop
-drawn-orders-requires c κs = search needs
+check-orders-requires : tie.Need-check-orders-requires Inv-loop μ-loop
+check-orders-requires c κs = search needs
 
 add-i : tie.Need-add-i Inv-loop μ-loop
 add-i c = search needs
@@ -44,11 +44,11 @@ large-orders-spec =
     (tie.spec
     Inv-loop
     μ-loop
-    start-requires
+    none-requires
     loop-holds
-    mul-drawn-orders
-    array-read-drawn-orders
-    drawn-orders-requires
+    mul-check-orders
+    array-read-check-orders
+    check-orders-requires
     add-i
     loop-less
     loop-again

@@ -17,29 +17,14 @@ start-requires c κs = search needs
 loop-holds : tie.Need-loop-holds Inv-loop μ-loop
 loop-holds c = search needs
 
-mul-n : tie.Need-mul-n Inv-loop μ-loop
-mul-n c = search needs
+mul-check-settings : tie.Need-mul-check-settings Inv-loop μ-loop
+mul-check-settings c = search needs
 
-array-read-n : tie.Need-array-read-n Inv-loop μ-loop
-array-read-n c = search needs
+array-read-check-settings : tie.Need-array-read-check-settings Inv-loop μ-loop
+array-read-check-settings c = search needs
 
-list-requires : tie.Need-list-requires Inv-loop μ-loop
-list-requires c κs = search needs
-
-cast-random-bits : tie.Need-cast-random-bits Inv-loop μ-loop
-cast-random-bits c = search needs
-
-add-random-bits : tie.Need-add-random-bits Inv-loop μ-loop
-add-random-bits c = search needs
-
-of-requires : tie.Need-of-requires Inv-loop μ-loop
-of-requires c κs = search needs
-
-random-bits-requires : tie.Need-random-bits-requires Inv-loop μ-loop
-random-bits-requires c κs = search needs
-
-setting-requires : tie.Need-setting-requires Inv-loop μ-loop
-setting-requires c κs = search needs
+check-settings-requires : tie.Need-check-settings-requires Inv-loop μ-loop
+check-settings-requires c κs = search needs
 
 add-i : tie.Need-add-i Inv-loop μ-loop
 add-i c = search needs
@@ -61,14 +46,9 @@ large-settings-spec =
     μ-loop
     start-requires
     loop-holds
-    mul-n
-    array-read-n
-    list-requires
-    cast-random-bits
-    add-random-bits
-    of-requires
-    random-bits-requires
-    setting-requires
+    mul-check-settings
+    array-read-check-settings
+    check-settings-requires
     add-i
     loop-less
     loop-again

@@ -6,19 +6,25 @@ use Rattle.check_control.proofs.small_orders.Statement.{statement}
 use Rattle.check_control.proofs.small_orders.Tie as tie
 
 abbrev Inv-loop : tie.InvT-loop
-Inv-loop r₀ n₀ r n = n ≤ 7
+Inv-loop t₀ n₀ t n = n ≤ 7
 
 abbrev μ-loop : tie.MeasureT-loop
-μ-loop r₀ n₀ r n = 7 - n
+μ-loop t₀ n₀ t n = 7 - n
 
-start-requires : tie.Need-start-requires Inv-loop μ-loop
-start-requires c κs = search needs
+none-requires : tie.Need-none-requires Inv-loop μ-loop
+none-requires c κs = search needs
 
 loop-holds : tie.Need-loop-holds Inv-loop μ-loop
 loop-holds c = search needs
 
-all-orders-requires : tie.Need-all-orders-requires Inv-loop μ-loop
-all-orders-requires c κs = search needs
+mul-check-orders : tie.Need-mul-check-orders Inv-loop μ-loop
+mul-check-orders c = search needs
+
+array-read-check-orders : tie.Need-array-read-check-orders Inv-loop μ-loop
+array-read-check-orders c = search needs
+
+check-orders-requires : tie.Need-check-orders-requires Inv-loop μ-loop
+check-orders-requires c κs = search needs
 
 add-n : tie.Need-add-n Inv-loop μ-loop
 add-n c = search needs
@@ -38,9 +44,11 @@ small-orders-spec =
     (tie.spec
     Inv-loop
     μ-loop
-    start-requires
+    none-requires
     loop-holds
-    all-orders-requires
+    mul-check-orders
+    array-read-check-orders
+    check-orders-requires
     add-n
     loop-less
     loop-again

@@ -6,10 +6,10 @@ use Rattle.check_control.proofs.nets.write_rounds.Statement.{statement}
 use Rattle.check_control.proofs.nets.write_rounds.Tie as tie
 
 abbrev Inv-loop : tie.InvT-loop
-Inv-loop log₀ e o m k i₀ log i = i ≤ k
+Inv-loop log₀ e o m k at₀ i₀ log at i = i ≤ k
 
 abbrev μ-loop : tie.MeasureT-loop
-μ-loop log₀ e o m k i₀ log i = k - i
+μ-loop log₀ e o m k at₀ i₀ log at i = k - i
 
 up-requires : tie.Need-up-requires Inv-loop μ-loop
 up-requires c κs = search needs
@@ -17,26 +17,23 @@ up-requires c κs = search needs
 loop-holds : tie.Need-loop-holds Inv-loop μ-loop
 loop-holds c = search needs
 
-mul-add : tie.Need-mul-add Inv-loop μ-loop
-mul-add c = search needs
+write-requires : tie.Need-write-requires Inv-loop μ-loop
+write-requires c κs = search needs
 
 add-requires : tie.Need-add-requires Inv-loop μ-loop
 add-requires c κs = search needs
 
-write-requires : tie.Need-write-requires Inv-loop μ-loop
-write-requires c κs = search needs
+write-requires-2 : tie.Need-write-requires-2 Inv-loop μ-loop
+write-requires-2 c κs = search needs
 
 add-requires-2 : tie.Need-add-requires-2 Inv-loop μ-loop
 add-requires-2 c κs = search needs
 
-write-requires-2 : tie.Need-write-requires-2 Inv-loop μ-loop
-write-requires-2 c κs = search needs
+write-requires-3 : tie.Need-write-requires-3 Inv-loop μ-loop
+write-requires-3 c κs = search needs
 
 add-requires-3 : tie.Need-add-requires-3 Inv-loop μ-loop
 add-requires-3 c κs = search needs
-
-write-requires-3 : tie.Need-write-requires-3 Inv-loop μ-loop
-write-requires-3 c κs = search needs
 
 add-i : tie.Need-add-i Inv-loop μ-loop
 add-i c = search needs
@@ -46,12 +43,6 @@ loop-less c = search needs
 
 loop-again : tie.Need-loop-again Inv-loop μ-loop
 loop-again c = search needs
-
-mul-add-2 : tie.Need-mul-add-2 Inv-loop μ-loop
-mul-add-2 c = search needs
-
-add-requires-4 : tie.Need-add-requires-4 Inv-loop μ-loop
-add-requires-4 c κs = search needs
 
 write-requires-4 : tie.Need-write-requires-4 Inv-loop μ-loop
 write-requires-4 c κs = search needs
@@ -67,17 +58,14 @@ write-rounds-spec =
     μ-loop
     up-requires
     loop-holds
-    mul-add
-    add-requires
     write-requires
-    add-requires-2
+    add-requires
     write-requires-2
-    add-requires-3
+    add-requires-2
     write-requires-3
+    add-requires-3
     add-i
     loop-less
     loop-again
-    mul-add-2
-    add-requires-4
     write-requires-4
     returns)

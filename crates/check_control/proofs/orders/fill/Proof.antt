@@ -6,10 +6,10 @@ use Rattle.check_control.proofs.orders.fill.Statement.{statement}
 use Rattle.check_control.proofs.orders.fill.Tie as tie
 
 abbrev Inv-loop : tie.InvT-loop
-Inv-loop blocks₀ bytes seed x₀ q₀ blocks x q = q ≤ bytes
+Inv-loop blocks₀ bytes x₀ q₀ blocks x q = q ≤ bytes
 
 abbrev μ-loop : tie.MeasureT-loop
-μ-loop blocks₀ bytes seed x₀ q₀ blocks x q = bytes - q
+μ-loop blocks₀ bytes x₀ q₀ blocks x q = bytes - q
 
 loop-holds : tie.Need-loop-holds Inv-loop μ-loop
 loop-holds c = search needs

@@ -20,14 +20,14 @@ times-requires-2 c κs = search needs
 loop-holds : tie.Need-loop-holds Inv-loop μ-loop
 loop-holds c = search needs
 
-add-byte : tie.Need-add-byte Inv-loop μ-loop
-add-byte c = search needs
-
-element-copy-out-byte : tie.Need-element-copy-out-byte Inv-loop μ-loop
-element-copy-out-byte c = search needs
-
 add-out : tie.Need-add-out Inv-loop μ-loop
 add-out c = search needs
+
+element-copy-out-out : tie.Need-element-copy-out-out Inv-loop μ-loop
+element-copy-out-out c = search needs
+
+add-out-2 : tie.Need-add-out-2 Inv-loop μ-loop
+add-out-2 c = search needs
 
 element-write-out : tie.Need-element-write-out Inv-loop μ-loop
 element-write-out c = search needs
@@ -53,9 +53,9 @@ move-block-spec =
     times-requires
     times-requires-2
     loop-holds
-    add-byte
-    element-copy-out-byte
     add-out
+    element-copy-out-out
+    add-out-2
     element-write-out
     add-i
     loop-less

@@ -6,10 +6,10 @@ use Rattle.check_control.proofs.replay.last_bits.Statement.{statement}
 use Rattle.check_control.proofs.replay.last_bits.Tie as tie
 
 abbrev Inv-loop : tie.InvT-loop
-Inv-loop trails bits₀ o h first i₀ bits i = i ≤ h
+Inv-loop table bits₀ o h first i₀ bits i = i ≤ h
 
 abbrev μ-loop : tie.MeasureT-loop
-μ-loop trails bits₀ o h first i₀ bits i = h - i
+μ-loop table bits₀ o h first i₀ bits i = h - i
 
 loop-holds : tie.Need-loop-holds Inv-loop μ-loop
 loop-holds c = search needs

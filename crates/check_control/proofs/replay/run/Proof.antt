@@ -6,10 +6,10 @@ use Rattle.check_control.proofs.replay.run.Statement.{statement}
 use Rattle.check_control.proofs.replay.run.Tie as tie
 
 abbrev Inv-loop : tie.InvT-loop
-Inv-loop order nets log count bits₀ vals₀ trails₀ marks₀ w₀ known₀ e₀ bits vals trails marks w known e = e ≤ count
+Inv-loop order nets log count bits₀ known₀ table₀ marks₀ w₀ e₀ bits known table marks w e = e ≤ count
 
 abbrev μ-loop : tie.MeasureT-loop
-μ-loop order nets log count bits₀ vals₀ trails₀ marks₀ w₀ known₀ e₀ bits vals trails marks w known e = count - e
+μ-loop order nets log count bits₀ known₀ table₀ marks₀ w₀ e₀ bits known table marks w e = count - e
 
 load-requires : tie.Need-load-requires Inv-loop μ-loop
 load-requires c κs = search needs
@@ -17,23 +17,14 @@ load-requires c κs = search needs
 loop-holds : tie.Need-loop-holds Inv-loop μ-loop
 loop-holds c = search needs
 
-mul-kind : tie.Need-mul-kind Inv-loop μ-loop
-mul-kind c = search needs
-
-mul-kind-2 : tie.Need-mul-kind-2 Inv-loop μ-loop
-mul-kind-2 c = search needs
-
-element-copy-out-kind : tie.Need-element-copy-out-kind Inv-loop μ-loop
-element-copy-out-kind c = search needs
-
-mul-wide : tie.Need-mul-wide Inv-loop μ-loop
-mul-wide c = search needs
+mul-i : tie.Need-mul-i Inv-loop μ-loop
+mul-i c = search needs
 
 add-wide : tie.Need-add-wide Inv-loop μ-loop
 add-wide c = search needs
 
-mul-wide-2 : tie.Need-mul-wide-2 Inv-loop μ-loop
-mul-wide-2 c = search needs
+mul-wide : tie.Need-mul-wide Inv-loop μ-loop
+mul-wide c = search needs
 
 element-copy-out-wide : tie.Need-element-copy-out-wide Inv-loop μ-loop
 element-copy-out-wide c = search needs
@@ -41,14 +32,11 @@ element-copy-out-wide c = search needs
 wide-requires : tie.Need-wide-requires Inv-loop μ-loop
 wide-requires c κs = search needs
 
-mul-wide-3 : tie.Need-mul-wide-3 Inv-loop μ-loop
-mul-wide-3 c = search needs
-
 add-wide-2 : tie.Need-add-wide-2 Inv-loop μ-loop
 add-wide-2 c = search needs
 
-mul-wide-4 : tie.Need-mul-wide-4 Inv-loop μ-loop
-mul-wide-4 c = search needs
+mul-wide-2 : tie.Need-mul-wide-2 Inv-loop μ-loop
+mul-wide-2 c = search needs
 
 element-copy-out-wide-2 : tie.Need-element-copy-out-wide-2 Inv-loop μ-loop
 element-copy-out-wide-2 c = search needs
@@ -59,17 +47,20 @@ wide-requires-2 c κs = search needs
 find-requires : tie.Need-find-requires Inv-loop μ-loop
 find-requires c κs = search needs
 
-walking-requires : tie.Need-walking-requires Inv-loop μ-loop
-walking-requires c κs = search needs
+mul-step : tie.Need-mul-step Inv-loop μ-loop
+mul-step c = search needs
 
-changing-requires : tie.Need-changing-requires Inv-loop μ-loop
-changing-requires c κs = search needs
+element-copy-out-step : tie.Need-element-copy-out-step Inv-loop μ-loop
+element-copy-out-step c = search needs
 
-cast-wrapping-add-u64 : tie.Need-cast-wrapping-add-u64 Inv-loop μ-loop
-cast-wrapping-add-u64 c = search needs
+step-requires : tie.Need-step-requires Inv-loop μ-loop
+step-requires c κs = search needs
 
-wrapping-add-u64-requires : tie.Need-wrapping-add-u64-requires Inv-loop μ-loop
-wrapping-add-u64-requires c κs = search needs
+cast-add : tie.Need-cast-add Inv-loop μ-loop
+cast-add c = search needs
+
+add-requires : tie.Need-add-requires Inv-loop μ-loop
+add-requires c κs = search needs
 
 add-e : tie.Need-add-e Inv-loop μ-loop
 add-e c = search needs
@@ -91,24 +82,21 @@ run-spec =
     μ-loop
     load-requires
     loop-holds
-    mul-kind
-    mul-kind-2
-    element-copy-out-kind
-    mul-wide
+    mul-i
     add-wide
-    mul-wide-2
+    mul-wide
     element-copy-out-wide
     wide-requires
-    mul-wide-3
     add-wide-2
-    mul-wide-4
+    mul-wide-2
     element-copy-out-wide-2
     wide-requires-2
     find-requires
-    walking-requires
-    changing-requires
-    cast-wrapping-add-u64
-    wrapping-add-u64-requires
+    mul-step
+    element-copy-out-step
+    step-requires
+    cast-add
+    add-requires
     add-e
     loop-less
     loop-again

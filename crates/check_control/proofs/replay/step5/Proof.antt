@@ -6,10 +6,10 @@ use Rattle.check_control.proofs.replay.step5.Statement.{statement}
 use Rattle.check_control.proofs.replay.step5.Tie as tie
 
 abbrev Inv-loop : tie.InvT-loop
-Inv-loop vals₀ trails₀ o m k p₀ vals trails p = p ≤ m
+Inv-loop table₀ o m k p₀ table p = p ≤ m
 
 abbrev μ-loop : tie.MeasureT-loop
-μ-loop vals₀ trails₀ o m k p₀ vals trails p = m - p
+μ-loop table₀ o m k p₀ table p = m - p
 
 up-requires : tie.Need-up-requires Inv-loop μ-loop
 up-requires c κs = search needs
@@ -17,8 +17,14 @@ up-requires c κs = search needs
 loop-holds : tie.Need-loop-holds Inv-loop μ-loop
 loop-holds c = search needs
 
-gain-requires : tie.Need-gain-requires Inv-loop μ-loop
-gain-requires c κs = search needs
+at-requires : tie.Need-at-requires Inv-loop μ-loop
+at-requires c κs = search needs
+
+gained-requires : tie.Need-gained-requires Inv-loop μ-loop
+gained-requires c κs = search needs
+
+put-requires : tie.Need-put-requires Inv-loop μ-loop
+put-requires c κs = search needs
 
 add-p : tie.Need-add-p Inv-loop μ-loop
 add-p c = search needs
@@ -40,7 +46,9 @@ step5-spec =
     μ-loop
     up-requires
     loop-holds
-    gain-requires
+    at-requires
+    gained-requires
+    put-requires
     add-p
     loop-less
     loop-again

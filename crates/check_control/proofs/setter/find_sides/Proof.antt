@@ -6,19 +6,19 @@ use Rattle.check_control.proofs.setter.find_sides.Statement.{statement}
 use Rattle.check_control.proofs.setter.find_sides.Tie as tie
 
 abbrev Inv-loop : tie.InvT-loop
-Inv-loop table home o m side₀ k i₀ side i = i ≤ k
+Inv-loop table o m home side₀ k i₀ side i = i ≤ k
 
 abbrev μ-loop : tie.MeasureT-loop
-μ-loop table home o m side₀ k i₀ side i = k - i
+μ-loop table o m home side₀ k i₀ side i = k - i
+
+find-homes-requires : tie.Need-find-homes-requires Inv-loop μ-loop
+find-homes-requires c κs = search needs
 
 up-requires : tie.Need-up-requires Inv-loop μ-loop
 up-requires c κs = search needs
 
-returns : tie.Need-returns Inv-loop μ-loop
-returns c = search needs
-
-sub-ring : tie.Need-sub-ring Inv-loop μ-loop
-sub-ring c = search needs
+less-requires : tie.Need-less-requires Inv-loop μ-loop
+less-requires c κs = search needs
 
 ring-requires : tie.Need-ring-requires Inv-loop μ-loop
 ring-requires c κs = search needs
@@ -38,8 +38,8 @@ loop-less c = search needs
 loop-again : tie.Need-loop-again Inv-loop μ-loop
 loop-again c = search needs
 
-returns-2 : tie.Need-returns-2 Inv-loop μ-loop
-returns-2 c = search needs
+returns : tie.Need-returns Inv-loop μ-loop
+returns c = search needs
 
 pub find-sides-spec : {M : Type 1} → statement M
 find-sides-spec =
@@ -47,13 +47,13 @@ find-sides-spec =
     (tie.spec
     Inv-loop
     μ-loop
+    find-homes-requires
     up-requires
-    returns
-    sub-ring
+    less-requires
     ring-requires
     loop-holds
     ring-requires-2
     add-i
     loop-less
     loop-again
-    returns-2)
+    returns)

@@ -6,10 +6,10 @@ use Rattle.check_control.proofs.setter.set_net.Statement.{statement}
 use Rattle.check_control.proofs.setter.set_net.Tie as tie
 
 abbrev Inv-loop : tie.InvT-loop
-Inv-loop table₀ bits₀ nets j o m side k i₀ table bits i = i ≤ k
+Inv-loop table₀ bits₀ nets j o m first last side k i₀ table bits i = i ≤ k
 
 abbrev μ-loop : tie.MeasureT-loop
-μ-loop table₀ bits₀ nets j o m side k i₀ table bits i = k - i
+μ-loop table₀ bits₀ nets j o m first last side k i₀ table bits i = k - i
 
 of-requires : tie.Need-of-requires Inv-loop μ-loop
 of-requires c κs = search needs
@@ -17,8 +17,11 @@ of-requires c κs = search needs
 of-requires-2 : tie.Need-of-requires-2 Inv-loop μ-loop
 of-requires-2 c κs = search needs
 
-find-homes-requires : tie.Need-find-homes-requires Inv-loop μ-loop
-find-homes-requires c κs = search needs
+of-requires-3 : tie.Need-of-requires-3 Inv-loop μ-loop
+of-requires-3 c κs = search needs
+
+outputs-requires : tie.Need-outputs-requires Inv-loop μ-loop
+outputs-requires c κs = search needs
 
 find-sides-requires : tie.Need-find-sides-requires Inv-loop μ-loop
 find-sides-requires c κs = search needs
@@ -55,7 +58,8 @@ set-net-spec =
     μ-loop
     of-requires
     of-requires-2
-    find-homes-requires
+    of-requires-3
+    outputs-requires
     find-sides-requires
     up-requires
     loop-holds
