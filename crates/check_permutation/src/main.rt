@@ -126,8 +126,8 @@ fn check_shuffle(t: Tally, n: usize, seed: u32) -> Tally
     let mut out = [7u16; 1024];
     let a = shuffle::shuffle(n, &words[..n], &mut out);
     let right = plain::shuffle(&words, n);
-    let t1 = tally::tallied(t, tally::same_words(&out, &right));
-    let t2 = tally::tallied(t1, tally::same_answer(a, answers::accept(n)));
+    let t1 = tally::tallied(t, plain::alike(&out, &right));
+    let t2 = tally::tallied(t1, plain::answered(a, 0, 0, n));
     let e = plain::front(&right, n);
     let other = plain::words(plain::next(seed));
     let s = plain::shuffle(&other, n);

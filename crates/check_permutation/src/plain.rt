@@ -28,12 +28,17 @@ fn put(e: [u16; 1024], i: usize, x: u16) -> [u16; 1024] {
     out
 }
 
-fn answer(number: usize, place: usize, count: usize) -> Answer {
-    Answer {
+pub fn alike(a: &[u16; 1024], b: &[u16; 1024]) -> bool {
+    tally::same_words(a, b)
+}
+
+pub fn answered(a: Answer, number: usize, place: usize, count: usize) -> bool {
+    let right = Answer {
         number,
         place,
         count,
-    }
+    };
+    tally::same_answer(a, right)
 }
 
 // A reply with this answer and this record.
@@ -51,8 +56,8 @@ fn replied(
     if p.length != length {
         return false;
     }
-    if tally::same_answer(a, answer(number, place, count)) {
-        return tally::same_words(&entries, e);
+    if answered(a, number, place, count) {
+        return alike(&entries, e);
     }
     false
 }

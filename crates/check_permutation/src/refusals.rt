@@ -73,8 +73,8 @@ fn of_shuffle(t: Tally, n: usize, count: usize, room: usize, number: usize) -> T
         return t;
     }
     let a = shuffle::shuffle(n, &words[..count], &mut out[..room]);
-    let t1 = tally::tallied(t, tally::same_answer(a, answers::refuse(number, 0)));
-    tally::tallied(t1, tally::same_words(&out, &[7u16; 1024]))
+    let t1 = tally::tallied(t, plain::answered(a, number, 0, 0));
+    tally::tallied(t1, plain::alike(&out, &[7u16; 1024]))
 }
 
 fn of_shuffles(t: Tally) -> Tally {
