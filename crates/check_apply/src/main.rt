@@ -66,9 +66,26 @@ fn ours(
 ) -> Answer
     requires { ⌜ w ≤ 9217 ⌝ }
 {
-    let bytes = plain::times(n, width);
+    let bytes = tally::times(n, width);
     let words = room(w);
     call(n, width, blocks, bytes, bits, w, log, words, back)
+}
+
+fn theirs(
+    blocks: &mut [u8; 262144],
+    width: usize,
+    lower: &[usize],
+    upper: &[usize],
+    w: usize,
+    bits: &[u8; 9217],
+    log: &mut [u16; 27656],
+    back: bool,
+) {
+    plain::run(blocks, width, lower, upper, w, bits, log, back);
+}
+
+fn fill(blocks: &mut [u8; 262144], seed: u32) {
+    plain::fill(blocks, seed, 256);
 }
 
 fn tally_buffers(
@@ -97,12 +114,12 @@ fn compare(
 {
     let mut a = [0u8; 262144];
     let mut b = [0u8; 262144];
-    plain::fill(&mut a, seed, 256);
-    plain::fill(&mut b, seed, 256);
+    fill(&mut a, seed);
+    fill(&mut b, seed);
     let mut la = [77u16; 27656];
     let mut lb = [77u16; 27656];
     let x = ours(n, width, bits, w, &mut a, &mut la, back);
-    plain::run(&mut b, width, lower, upper, w, bits, &mut lb, back);
+    theirs(&mut b, width, lower, upper, w, bits, &mut lb, back);
     tally_buffers(
         tally::tallied(t, tally::same_answer(x, answers::accept(w))),
         &a,
@@ -156,7 +173,7 @@ fn check_all(t: Tally, back: bool) -> Tally {
     let t2 = check_sizes(t1, 127, 128, back);
     let t3 = check_sizes(t2, 255, 259, back);
     let t4 = check_sizes(t3, 1000, 1000, back);
-    check_sizes(t4, 1024, 1024, back)
+    check_sizes(t4, 1023, 1024, back)
 }
 
 // ---- refused calls: the answer, and both buffers as they were
@@ -215,11 +232,11 @@ fn refuse_all(t: Tally) -> Tally {
 
 fn main() {
     tally::print(
-        b"apply at 43 sizes and 4 widths",
+        b"apply at 44 sizes and 4 widths",
         check_all(tally::none(), false),
     );
     tally::print(
-        b"apply_inverse at 43 sizes and 4 widths",
+        b"apply_inverse at 44 sizes and 4 widths",
         check_all(tally::none(), true),
     );
     tally::print(b"refusals", refuse_all(tally::none()));

@@ -30,7 +30,7 @@ fn mix_part(
     w: usize,
     back: bool,
 ) -> Answer {
-    let bytes = least(times(n, width), blocks.len());
+    let bytes = least(tally::times(n, width), blocks.len());
     let count = least(w, bits.len());
     let mut log = [0u16; 27651];
     if back {
@@ -49,19 +49,6 @@ pub fn mix(
     back: bool,
 ) -> Answer {
     mix_part(n, width, blocks, bits, w, back)
-}
-
-// n × width, where both are what a call takes; else 0.
-pub fn times(n: usize, width: usize) -> usize
-    ensures { λ r. ⌜ r ≤ 262144 ⌝ }
-{
-    if 1024 < n {
-        return 0;
-    }
-    if 256 < width {
-        return 0;
-    }
-    n * width
 }
 
 pub fn write_sheet(n: usize, bits: &[u8], w: usize, sheet: &mut [u8]) -> Answer {

@@ -44,8 +44,8 @@ fn carry(
     let mut home = [0u8; 262144];
     let mut away = [0u8; 262144];
     let mut blocks = [0u8; 262144];
-    orders::fill(&mut home, calls::times(n, width));
-    orders::fill(&mut blocks, calls::times(n, width));
+    orders::fill(&mut home, tally::times(n, width));
+    orders::fill(&mut blocks, tally::times(n, width));
     orders::scatter(&mut away, &home, order, n, width);
     let x = calls::mix(n, width, &mut blocks, bits, w, false);
     let t1 = same_blocks(accepted(t, x, w), &blocks, &away);
@@ -177,47 +177,62 @@ fn check_settings(before: Run, n: usize, count: u32) -> Run {
     r
 }
 
-const FACTORIALS: [u32; 7] = [1, 1, 2, 6, 24, 120, 720];
+// Sizes; how many orders of each, all of them up to size 6; how many settings of each, all of them up to size 6.
+const SIZES: [usize; 19] = [
+    0,
+    1,
+    2,
+    3,
+    4,
+    5,
+    6,
+    7,
+    23,
+    127,
+    128,
+    255,
+    256,
+    257,
+    258,
+    259,
+    1000,
+    1023,
+    1024,
+];
+
+const ORDERS: [u32; 7] = [1, 1, 2, 6, 24, 120, 720];
 
 const SETTINGS: [u32; 7] = [1, 1, 2, 8, 32, 256, 2048];
 
-const SIZES: [usize; 12] = [7, 23, 127, 128, 255, 256, 257, 258, 259, 1000, 1023, 1024];
-
-fn small_orders() -> Tally {
-    let mut t = tally::none();
-    let mut n = 0;
-    while n < 7 {
-        t = check_orders(t, n, FACTORIALS[n], false);
-        n += 1;
+fn orders_at(t: Tally, i: usize) -> Tally {
+    if i < 7 {
+        return check_orders(t, SIZES[i], ORDERS[i], false);
     }
-    t
+    check_orders(t, SIZES[i % 19], 25, true)
 }
 
-fn large_orders() -> Tally {
+fn settings_at(r: Run, i: usize) -> Run {
+    if i < 7 {
+        return check_settings(r, SIZES[i], SETTINGS[i]);
+    }
+    check_settings(r, SIZES[i % 19], 2)
+}
+
+fn all_orders(from: usize, to: usize) -> Tally {
     let mut t = tally::none();
-    let mut i = 0;
-    while i < 12 {
-        t = check_orders(t, SIZES[i], 25, true);
+    let mut i = from;
+    while i < to {
+        t = orders_at(t, i);
         i += 1;
     }
     t
 }
 
-fn small_settings() -> Run {
+fn all_settings(from: usize, to: usize) -> Run {
     let mut r = start();
-    let mut n = 0;
-    while n < 7 {
-        r = check_settings(r, n, SETTINGS[n]);
-        n += 1;
-    }
-    r
-}
-
-fn large_settings() -> Run {
-    let mut r = start();
-    let mut i = 0;
-    while i < 12 {
-        r = check_settings(r, SIZES[i], 2);
+    let mut i = from;
+    while i < to {
+        r = settings_at(r, i);
         i += 1;
     }
     r
@@ -244,18 +259,18 @@ fn telling() -> Tally {
 }
 
 fn main() {
-    tally::print(b"all orders of up to 6 places", small_orders());
+    tally::print(b"all orders of up to 6 places", all_orders(0, 7));
     tally::print(
         b"25 drawn orders at each of 12 sizes up to 1024",
-        large_orders(),
+        all_orders(7, 19),
     );
     print_settings(
         b"orders of all settings of up to 6 places",
-        small_settings(),
+        all_settings(0, 7),
     );
     print_settings(
         b"orders of 2 drawn settings at each of 12 sizes",
-        large_settings(),
+        all_settings(7, 19),
     );
     tally::print(b"order 0 3 2 1 4", telling());
     tally::print(b"refusals of set", refusals::all());

@@ -69,29 +69,29 @@ fn net(
     put(nets, j, ENTRIES, counts[m % 1025 * 2 + 1]);
 }
 
-// The halves: the top behind what the network has before them, the bottom behind the top.
+// The top half, behind what network j has before its halves.
+fn top(nets: &mut [usize; 12288], counts: &[usize; 2050], j: usize, t: usize, m: usize) {
+    let o = of(nets, j, START);
+    let bit = add(of(nets, j, BIT), less(up(m)));
+    let entry = add(of(nets, j, ENTRY), entries_before(m));
+    net(nets, counts, t, o, up(m), bit, entry);
+}
+
+// The bottom half, behind the top half t.
+fn bottom(nets: &mut [usize; 12288], counts: &[usize; 2050], t: usize, h: usize) {
+    let o = add(of(nets, t, START), of(nets, t, SIZE));
+    let bit = add(of(nets, t, BIT), of(nets, t, BITS));
+    let entry = add(of(nets, t, ENTRY), of(nets, t, ENTRIES));
+    net(nets, counts, t % 2048 + 1, o, h, bit, entry);
+}
+
 fn halve(nets: &mut [usize; 12288], counts: &[usize; 2050], j: usize) {
     let m = of(nets, j, SIZE);
-    if m < 2 {
-        return;
-    }
-    let k = m - m / 2;
     let t = j % 1023 * 2 + 1;
-    let o = of(nets, j, START);
-    let bit = add(of(nets, j, BIT), k - 1);
-    let entry = add(of(nets, j, ENTRY), entries_before(m));
-    net(nets, counts, t, o, k, bit, entry);
-    let bits = of(nets, t, BITS);
-    let entries = of(nets, t, ENTRIES);
-    net(
-        nets,
-        counts,
-        t + 1,
-        add(o, k),
-        m / 2,
-        add(bit, bits),
-        add(entry, entries),
-    );
+    if 1 < m {
+        top(nets, counts, j, t, m);
+        bottom(nets, counts, t, m / 2);
+    }
 }
 
 pub fn list(n: usize) -> [usize; 12288] {

@@ -72,8 +72,8 @@ pub fn fill(blocks: &mut [u8; 262144], bytes: usize) {
 
 // Block `from` goes to place `to`.
 fn move_block(out: &mut [u8; 262144], blocks: &[u8; 262144], from: usize, to: usize, width: usize) {
-    let a = calls::times(from, width);
-    let b = calls::times(to, width);
+    let a = tally::times(from, width);
+    let b = tally::times(to, width);
     let mut i = 0;
     while i < width {
         out[(b + i % 256) % 262144] = blocks[(a + i % 256) % 262144];

@@ -16,8 +16,8 @@ fn refused(
     let mut log = [77u16; 49152];
     let x = calls::set(order, n, &mut bits, w, &mut log, words);
     let t1 = tally::tallied(t, tally::same_answer(x, answers::refuse(number, place)));
-    let t2 = tally::tallied(t1, check::same(&bits, &[7u8; 9217]));
-    tally::tallied(t2, tally::same_words(&log, &[77u16; 49152]))
+    let t2 = crate::same_bits(t1, &bits, &[7u8; 9217]);
+    crate::same_words(t2, &log, &[77u16; 49152])
 }
 
 // An order with entry x at place p.

@@ -2,6 +2,7 @@
 use answers::Answer;
 ghost use mathlib.Core.Path.{_≡_};
 ghost use mathlib.Core.Bool.{true};
+ghost use Prim.Native.Nat.{_*_, _≤_};
 ghost use Rattle.tally.specs.Tallies.{nothing, one, counted};
 
 // How many outcomes were compared, and how many of them were equal.
@@ -65,6 +66,19 @@ pub fn same_words(a: &[u16], b: &[u16]) -> bool
         i += 1;
     }
     true
+}
+
+// The bytes of n blocks, where n and the width are what a call takes; else 0.
+pub fn times(n: usize, width: usize) -> usize
+    ensures { λ r. ⌜ (r ≤ 262144) × (n ≤ 1024 → width ≤ 256 → r ≡ n * width) ⌝ }
+{
+    if 1024 < n {
+        return 0;
+    }
+    if 256 < width {
+        return 0;
+    }
+    n * width
 }
 
 // A line with both numbers. What is written out cannot be promised.

@@ -1,18 +1,15 @@
+-- `tally::same_answer` meets its contract.
+-- Assumes nothing.
 use Rattle.tally.proofs.Same.{answers-alike}
 use Rattle.tally.proofs.same_answer.Statement.{statement}
 use Rattle.tally.proofs.same_answer.Tie as tie
-use Rattle.tally.proofs.same_answer.Reads as reads
-use Rattle.tally.proofs.same_answer.Lts as lts
 
--- src/lib.rt:36:9
 returns : tie.Need-returns
 returns c = λ e. cc
 
--- src/lib.rt:39:9
 returns-2 : tie.Need-returns-2
 returns-2 c = λ e. cc
 
--- src/lib.rt:32:1
 returns-3 : tie.Need-returns-3
 returns-3 c = λ e. cc
 

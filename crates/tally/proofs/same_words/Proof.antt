@@ -1,14 +1,14 @@
-use Rattle.tally.proofs.Same.{further}
+-- `tally::same_words` meets its contract.
+-- Assumes nothing.
 use borrow.Author.Needs.{needs}
 use native.Mathlib.Omega.{arith}
 use mathlib.Core.Path.{_≡_}
 use Prim.Native.Nat.{ℕ, _-_, _≤_, _<_}
 use lib.ListN.{length, getD}
 use lib.Seq.{ext-getD}
+use Rattle.tally.proofs.Same.{further}
 use Rattle.tally.proofs.same_words.Statement.{statement}
 use Rattle.tally.proofs.same_words.Tie as tie
-use Rattle.tally.proofs.same_words.Reads as reads
-use Rattle.tally.proofs.same_words.Lts as lts
 
 abbrev Inv-loop : tie.InvT-loop
 Inv-loop a b i₀ i = (i ≤ length a) × (length a ≡ length b) × ((j : ℕ) → j < i → getD a j 0 ≡ getD b j 0)
@@ -16,49 +16,38 @@ Inv-loop a b i₀ i = (i ≤ length a) × (length a ≡ length b) × ((j : ℕ) 
 abbrev μ-loop : tie.MeasureT-loop
 μ-loop a b i₀ i = length a - i
 
--- src/lib.rt:49:9
 returns : tie.Need-returns Inv-loop μ-loop
 returns c = λ e. cc
 
--- src/lib.rt:52:5
 loop-holds : tie.Need-loop-holds Inv-loop μ-loop
 loop-holds c = search needs
 
--- src/lib.rt:53:12
 mul-if2 : tie.Need-mul-if2 Inv-loop μ-loop
 mul-if2 c = search needs
 
--- src/lib.rt:53:12
 shared-slice-read-if2 : tie.Need-shared-slice-read-if2 Inv-loop μ-loop
 shared-slice-read-if2 c = search needs
 
--- src/lib.rt:53:20
 mul-if2-2 : tie.Need-mul-if2-2 Inv-loop μ-loop
 mul-if2-2 c = search needs
 
--- src/lib.rt:53:20
 shared-slice-read-if2-2 : tie.Need-shared-slice-read-if2-2 Inv-loop μ-loop
 shared-slice-read-if2-2 c = search needs
 
--- src/lib.rt:54:13
 returns-2 : tie.Need-returns-2 Inv-loop μ-loop
 returns-2 c = λ e. cc
 
--- src/lib.rt:56:9
 add-i : tie.Need-add-i Inv-loop μ-loop
 add-i c = search needs
 
--- src/lib.rt:52:5
 loop-less : tie.Need-loop-less Inv-loop μ-loop
 loop-less c = search needs
 
--- src/lib.rt:52:5
 loop-again : tie.Need-loop-again Inv-loop μ-loop
 loop-again c =
     let a = c .before .before .before .before .before .before .args in
     (omega arith, c .before .before .before .before .loop .inv .1, further (a .a .now) (a .b .now) _ (c .before .before .before .before .loop .inv .2) (c .if2 .left))
 
--- src/lib.rt:45:1
 returns-3 : tie.Need-returns-3 Inv-loop μ-loop
 returns-3 c = λ e. ext-getD 0 (c .before .before .before .args .a .now) (c .before .before .before .args .b .now) (c .before .loop .inv .1) (λ j h. c .before .loop .inv .2 j (omega arith))
 

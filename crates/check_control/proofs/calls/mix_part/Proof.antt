@@ -1,80 +1,59 @@
+-- `check_control::calls::mix_part` meets its contract.
+-- Assumes nothing.
 use borrow.Author.Needs.{needs}
 use mathlib.Core.Path.{sym}
 use lib.Seq.{length-take-le}
 use Rattle.check_control.proofs.calls.mix_part.Statement.{statement}
 use Rattle.check_control.proofs.calls.mix_part.Tie as tie
-use Rattle.check_control.proofs.calls.mix_part.Reads as reads
-use Rattle.check_control.proofs.calls.mix_part.Lts as lts
-use Rattle.apply.proofs.apply.Reads as apply-reads
-use Rattle.apply.proofs.apply_inverse.Reads as apply-inverse-reads
-use Rattle.check_control.proofs.calls.least.Reads as least-reads
-use Rattle.check_control.proofs.calls.times.Reads as times-reads
 
--- src/calls.rt:34:23
 times-requires : tie.Need-times-requires
 times-requires c κs = search needs
 
--- src/calls.rt:34:9
 least-requires : tie.Need-least-requires
 least-requires c κs = search needs
 
--- src/calls.rt:35:9
 least-requires-2 : tie.Need-least-requires-2
 least-requires-2 c κs = search needs
 
--- src/calls.rt:38:47
 slice-relend-prefix-apply-inverse : tie.Need-slice-relend-prefix-apply-inverse
 slice-relend-prefix-apply-inverse c = search needs
 
--- src/calls.rt:38:47
 slice-aggregate-apply-inverse : tie.Need-slice-aggregate-apply-inverse
 slice-aggregate-apply-inverse c = sym (length-take-le _ _ (search needs))
 
--- src/calls.rt:38:69
 slice-aggregate-apply-inverse-2 : tie.Need-slice-aggregate-apply-inverse-2
 slice-aggregate-apply-inverse-2 c = sym (length-take-le _ _ (search needs))
 
--- src/calls.rt:38:85
 slice-aggregate-apply-inverse-3 : tie.Need-slice-aggregate-apply-inverse-3
 slice-aggregate-apply-inverse-3 c = search needs
 
--- src/calls.rt:38:9
 apply-inverse-requires : tie.Need-apply-inverse-requires
 apply-inverse-requires c κs = search needs
 
--- src/calls.rt:38:9
 same-length : tie.Need-same-length
 same-length c = search needs
 
--- src/calls.rt:38:9
 returns : tie.Need-returns
 returns c = search needs
 
--- src/calls.rt:40:28
 slice-relend-prefix-apply : tie.Need-slice-relend-prefix-apply
 slice-relend-prefix-apply c = search needs
 
--- src/calls.rt:40:28
 slice-aggregate-apply : tie.Need-slice-aggregate-apply
 slice-aggregate-apply c = sym (length-take-le _ _ (search needs))
 
--- src/calls.rt:40:50
 slice-aggregate-apply-2 : tie.Need-slice-aggregate-apply-2
 slice-aggregate-apply-2 c = sym (length-take-le _ _ (search needs))
 
--- src/calls.rt:40:66
 slice-aggregate-apply-3 : tie.Need-slice-aggregate-apply-3
 slice-aggregate-apply-3 c = search needs
 
--- src/calls.rt:40:5
 apply-requires : tie.Need-apply-requires
 apply-requires c κs = search needs
 
--- src/calls.rt:33:1
 same-length-2 : tie.Need-same-length-2
 same-length-2 c = search needs
 
--- src/calls.rt:33:1
 returns-2 : tie.Need-returns-2
 returns-2 c = search needs
 

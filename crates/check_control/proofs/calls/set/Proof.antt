@@ -1,58 +1,44 @@
+-- `check_control::calls::set` meets its contract.
+-- Assumes nothing.
 use borrow.Author.Needs.{needs}
 use mathlib.Core.Path.{sym}
 use lib.Seq.{length-take-le}
 use Rattle.check_control.proofs.calls.set.Statement.{statement}
 use Rattle.check_control.proofs.calls.set.Tie as tie
-use Rattle.check_control.proofs.calls.set.Reads as reads
-use Rattle.check_control.proofs.calls.set.Lts as lts
-use Rattle.check_control.proofs.calls.least.Reads as least-reads
-use Rattle.control.proofs.control_bits.Reads as control-bits-reads
 
--- src/calls.rt:27:9
 least-requires : tie.Need-least-requires
 least-requires c κs = search needs
 
--- src/calls.rt:28:9
 least-requires-2 : tie.Need-least-requires-2
 least-requires-2 c κs = search needs
 
--- src/calls.rt:29:9
 least-requires-3 : tie.Need-least-requires-3
 least-requires-3 c κs = search needs
 
--- src/calls.rt:30:27
 slice-aggregate-control-bits : tie.Need-slice-aggregate-control-bits
 slice-aggregate-control-bits c = sym (length-take-le _ _ (search needs))
 
--- src/calls.rt:30:45
 slice-relend-prefix-control-bits : tie.Need-slice-relend-prefix-control-bits
 slice-relend-prefix-control-bits c = search needs
 
--- src/calls.rt:30:45
 slice-aggregate-control-bits-2 : tie.Need-slice-aggregate-control-bits-2
 slice-aggregate-control-bits-2 c = sym (length-take-le _ _ (search needs))
 
--- src/calls.rt:30:65
 slice-relend-prefix-control-bits-2 : tie.Need-slice-relend-prefix-control-bits-2
 slice-relend-prefix-control-bits-2 c = search needs
 
--- src/calls.rt:30:65
 slice-aggregate-control-bits-3 : tie.Need-slice-aggregate-control-bits-3
 slice-aggregate-control-bits-3 c = sym (length-take-le _ _ (search needs))
 
--- src/calls.rt:30:5
 control-bits-requires : tie.Need-control-bits-requires
 control-bits-requires c κs = search needs
 
--- src/calls.rt:19:1
 same-length : tie.Need-same-length
 same-length c = search needs
 
--- src/calls.rt:19:1
 same-length-2 : tie.Need-same-length-2
 same-length-2 c = search needs
 
--- src/calls.rt:19:1
 returns : tie.Need-returns
 returns c = search needs
 

@@ -1,17 +1,17 @@
--- `check_apply::plain::times` meets its contract.
+-- `tally::times` meets its contract.
 -- Assumes nothing.
-use borrow.Author.Needs.{needs}
 use Prim.Native.Nat.{_*_, _≤_}
+use mathlib.Core.Path.{refl}
 use native.Mathlib.Nat.{mul-le-mul}
 use native.Mathlib.Omega.{arith}
-use Rattle.check_apply.proofs.plain.times.Statement.{statement}
-use Rattle.check_apply.proofs.plain.times.Tie as tie
+use Rattle.tally.proofs.times.Statement.{statement}
+use Rattle.tally.proofs.times.Tie as tie
 
 returns : tie.Need-returns
-returns c = search needs
+returns c = (omega arith, λ a b. absurd (omega arith))
 
 returns-2 : tie.Need-returns-2
-returns-2 c = search needs
+returns-2 c = (omega arith, λ a b. absurd (omega arith))
 
 mul-result : tie.Need-mul-result
 mul-result c =
@@ -19,7 +19,7 @@ mul-result c =
     omega arith
 
 returns-3 : tie.Need-returns-3
-returns-3 c = mul-le-mul (c .before .if1 .left) (c .if2 .left)
+returns-3 c = (mul-le-mul (c .before .if1 .left) (c .if2 .left), λ a b. refl)
 
 pub times-spec : {M : Type 1} → statement M
 times-spec = tie.close (tie.spec returns returns-2 mul-result returns-3)
