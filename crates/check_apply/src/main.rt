@@ -1,7 +1,6 @@
 // Runs `apply` and `apply_inverse` against a second, plainly written mixer, and prints how many answers and buffers were
 // compared and how many of them were equal.
 mod plain;
-mod tally;
 
 use answers::Answer;
 use tally::Tally;
@@ -46,14 +45,6 @@ fn least(a: usize, b: usize) -> usize
     if a < b { a } else { b }
 }
 
-fn answer(number: usize, place: usize, count: usize) -> Answer {
-    Answer {
-        number,
-        place,
-        count,
-    }
-}
-
 // ---- accepted calls: the answer, the blocks, and the log with the words behind it
 
 // The words of w entries, and five more.
@@ -75,9 +66,26 @@ fn ours(
 ) -> Answer
     requires { ⌜ w ≤ 9217 ⌝ }
 {
-    let bytes = plain::times(n, width);
+    let bytes = tally::times(n, width);
     let words = room(w);
     call(n, width, blocks, bytes, bits, w, log, words, back)
+}
+
+fn theirs(
+    blocks: &mut [u8; 262144],
+    width: usize,
+    lower: &[usize],
+    upper: &[usize],
+    w: usize,
+    bits: &[u8; 9217],
+    log: &mut [u16; 27656],
+    back: bool,
+) {
+    plain::run(blocks, width, lower, upper, w, bits, log, back);
+}
+
+fn fill(blocks: &mut [u8; 262144], seed: u32) {
+    plain::fill(blocks, seed, 256);
 }
 
 fn tally_buffers(
@@ -87,8 +95,8 @@ fn tally_buffers(
     la: &[u16; 27656],
     lb: &[u16; 27656],
 ) -> Tally {
-    let t1 = tally::tallied(t, plain::same_bytes(a, b));
-    tally::tallied(t1, plain::same_words(la, lb))
+    let t1 = tally::tallied(t, check::same(a, b));
+    tally::tallied(t1, tally::same_words(la, lb))
 }
 
 fn compare(
@@ -106,13 +114,19 @@ fn compare(
 {
     let mut a = [0u8; 262144];
     let mut b = [0u8; 262144];
-    plain::fill(&mut a, seed, 256);
-    plain::fill(&mut b, seed, 256);
+    fill(&mut a, seed);
+    fill(&mut b, seed);
     let mut la = [77u16; 27656];
     let mut lb = [77u16; 27656];
     let x = ours(n, width, bits, w, &mut a, &mut la, back);
-    plain::run(&mut b, width, lower, upper, w, bits, &mut lb, back);
-    tally_buffers(tally::answers(t, x, answer(0, 0, w)), &a, &b, &la, &lb)
+    theirs(&mut b, width, lower, upper, w, bits, &mut lb, back);
+    tally_buffers(
+        tally::tallied(t, tally::same_answer(x, answers::accept(w))),
+        &a,
+        &b,
+        &la,
+        &lb,
+    )
 }
 
 fn check(t: Tally, n: usize, width: usize, seed: u32, back: bool) -> Tally {
@@ -159,7 +173,7 @@ fn check_all(t: Tally, back: bool) -> Tally {
     let t2 = check_sizes(t1, 127, 128, back);
     let t3 = check_sizes(t2, 255, 259, back);
     let t4 = check_sizes(t3, 1000, 1000, back);
-    check_sizes(t4, 1024, 1024, back)
+    check_sizes(t4, 1023, 1024, back)
 }
 
 // ---- refused calls: the answer, and both buffers as they were
@@ -183,9 +197,9 @@ fn refused(
     let mut a = [33u8; 64];
     let mut la = [77u16; 64];
     let x = call(n, width, &mut a, bytes, &bits, w, &mut la, words, back);
-    let t1 = tally::answers(t, x, answer(number, place, 0));
-    let t2 = tally::tallied(t1, plain::same_bytes(&a, &[33u8; 64]));
-    tally::tallied(t2, plain::same_words(&la, &[77u16; 64]))
+    let t1 = tally::tallied(t, tally::same_answer(x, answers::refuse(number, place)));
+    let t2 = tally::tallied(t1, check::same(&a, &[33u8; 64]));
+    tally::tallied(t2, tally::same_words(&la, &[77u16; 64]))
 }
 
 // Five places of six bytes: 30 bytes, 8 bits, 24 words. Each question gets a no alone, then with every later one.
@@ -216,23 +230,14 @@ fn refuse_all(t: Tally) -> Tally {
     refuse_contents(refuse_lengths(t1, true), true)
 }
 
-fn print(label: &[u8], t: Tally) {
-    io::write_all(1, label);
-    io::write_all(1, b": compared ");
-    io::print_decimal(1, t.compared);
-    io::write_all(1, b", equal ");
-    io::print_decimal(1, t.equal);
-    io::write_all(1, b"\n");
-}
-
 fn main() {
-    print(
-        b"apply at 43 sizes and 4 widths",
+    tally::print(
+        b"apply at 44 sizes and 4 widths",
         check_all(tally::none(), false),
     );
-    print(
-        b"apply_inverse at 43 sizes and 4 widths",
+    tally::print(
+        b"apply_inverse at 44 sizes and 4 widths",
         check_all(tally::none(), true),
     );
-    print(b"refusals", refuse_all(tally::none()));
+    tally::print(b"refusals", refuse_all(tally::none()));
 }

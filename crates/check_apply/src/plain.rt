@@ -27,19 +27,6 @@ fn bit(bits: &[u8], i: usize) -> u8 {
     if i < bits.len() { bits[i] } else { 0 }
 }
 
-// The bytes of n blocks, where n and the width are what a call accepts; else 0.
-pub fn times(n: usize, width: usize) -> usize
-    ensures { λ r. ⌜ r ≤ 262144 ⌝ }
-{
-    if 1024 < n {
-        return 0;
-    }
-    if 256 < width {
-        return 0;
-    }
-    n * width
-}
-
 // ---- the list of switches
 
 // How many tasks wait, and how many switches are listed.
@@ -168,8 +155,8 @@ fn swap(blocks: &mut [u8], i: usize, j: usize) {
 }
 
 fn swap_blocks(blocks: &mut [u8], width: usize, p: usize, q: usize) {
-    let a = times(p, width);
-    let b = times(q, width);
+    let a = tally::times(p, width);
+    let b = tally::times(q, width);
     let mut j = 0;
     while j < width {
         swap(blocks, add(a, j), add(b, j));
@@ -221,7 +208,7 @@ pub fn run(
     }
 }
 
-// ---- pseudo-random bytes, and comparing
+// ---- pseudo-random bytes
 
 fn random(x: u32) -> u32 {
     (x % 65537 * 75 + 74) % 65537
@@ -244,30 +231,4 @@ fn byte(x: u32, limit: u32) -> u8 {
     }
     let y = x % limit % 256;
     y as u8
-}
-
-pub fn same_bytes(a: &[u8], b: &[u8]) -> bool {
-    let mut i = 0;
-    while i < a.len() {
-        if a[i] != bit(b, i) {
-            return false;
-        }
-        i += 1;
-    }
-    a.len() == b.len()
-}
-
-fn word(a: &[u16], i: usize) -> u16 {
-    if i < a.len() { a[i] } else { 0 }
-}
-
-pub fn same_words(a: &[u16], b: &[u16]) -> bool {
-    let mut i = 0;
-    while i < a.len() {
-        if a[i] != word(b, i) {
-            return false;
-        }
-        i += 1;
-    }
-    a.len() == b.len()
 }

@@ -4,7 +4,7 @@ mod plain;
 mod refusals;
 
 use permutation::Permutation;
-use plain::Tally;
+use tally::Tally;
 ghost use Prim.Native.Nat.{_≤_};
 
 // Every list of n entries from 0 to 5, one for each number below `total`: from a list.
@@ -126,34 +126,37 @@ fn check_shuffle(t: Tally, n: usize, seed: u32) -> Tally
     let mut out = [7u16; 1024];
     let a = shuffle::shuffle(n, &words[..n], &mut out);
     let right = plain::shuffle(&words, n);
-    let t1 = plain::tallied(t, plain::alike(&out, &right));
-    let t2 = plain::tallied(t1, plain::answered(a, 0, 0, n));
+    let t1 = tally::tallied(t, plain::alike(&out, &right));
+    let t2 = tally::tallied(t1, plain::answered(a, 0, 0, n));
     let e = plain::front(&right, n);
     let other = plain::words(plain::next(seed));
     let s = plain::shuffle(&other, n);
     check_calls(check_list(t2, e, n), e, plain::front(&s, n), n)
 }
 
-// Sizes 0, 31, 62, .. and 1,024.
+const SIZES: [usize; 12] = [7, 23, 127, 128, 255, 256, 257, 258, 259, 1000, 1023, 1024];
+
+// Sizes 0, 31, 62, .. and those of the list.
 fn check_shuffles(before: Tally) -> Tally {
     let mut t = before;
     let mut k = 0;
     let mut seed: u32 = 20240229;
-    while k < 33 {
-        t = check_shuffle(t, k * 31, seed);
+    while k < 45 {
+        t = check_shuffle(t, size(k), seed);
         seed = plain::next(seed);
         k += 1;
     }
-    check_shuffle(t, 1024, seed)
+    t
 }
 
-fn print(label: &[u8], t: Tally) {
-    io::write_all(1, label);
-    io::write_all(1, b": compared ");
-    io::print_decimal(1, t.compared);
-    io::write_all(1, b", equal ");
-    io::print_decimal(1, t.equal);
-    io::write_all(1, b"\n");
+fn size(k: usize) -> usize
+    ensures { λ r. ⌜ r ≤ 1024 ⌝ }
+{
+    if k < 33 {
+        k * 31
+    } else {
+        SIZES[(k - 33) % 12] % 1025
+    }
 }
 
 fn small_lists(t: Tally) -> Tally {
@@ -162,7 +165,8 @@ fn small_lists(t: Tally) -> Tally {
     let t2 = check_lists(t1, 2, 36);
     let t3 = check_lists(t2, 3, 216);
     let t4 = check_lists(t3, 4, 1296);
-    check_lists(t4, 5, 7776)
+    let t5 = check_lists(t4, 5, 7776);
+    check_lists(t5, 6, 46656)
 }
 
 fn small_permutations(t: Tally) -> Tally {
@@ -171,18 +175,19 @@ fn small_permutations(t: Tally) -> Tally {
     let t2 = check_permutations(t1, 2, 36);
     let t3 = check_permutations(t2, 3, 216);
     let t4 = check_permutations(t3, 4, 1296);
-    check_permutations(t4, 5, 7776)
+    let t5 = check_permutations(t4, 5, 7776);
+    check_permutations(t5, 6, 46656)
 }
 
 fn main() {
-    print(b"lists of up to 5 entries", small_lists(plain::none()));
-    print(
-        b"calls on permutations of up to 5 places",
-        small_permutations(plain::none()),
+    tally::print(b"lists of up to 6 entries", small_lists(tally::none()));
+    tally::print(
+        b"calls on permutations of up to 6 places",
+        small_permutations(tally::none()),
     );
-    print(
+    tally::print(
         b"shuffles of up to 1024 places, and calls on them",
-        check_shuffles(plain::none()),
+        check_shuffles(tally::none()),
     );
-    print(b"refusals", refusals::all(plain::none()));
+    tally::print(b"refusals", refusals::all(tally::none()));
 }

@@ -1,26 +1,8 @@
 // A plain second computation: marks and searches, on arrays of 1,024 entries.
+use answers::Answer;
 use permutation::Reply;
+use tally::Tally;
 ghost use Prim.Native.Nat.{_≤_};
-
-// How many outcomes were compared, and how many were equal.
-pub struct Tally {
-    pub compared: u64,
-    pub equal: u64,
-}
-
-pub fn none() -> Tally {
-    Tally {
-        compared: 0,
-        equal: 0,
-    }
-}
-
-pub fn tallied(t: Tally, same: bool) -> Tally {
-    Tally {
-        compared: std::num::wrapping_add_u64(t.compared, 1),
-        equal: std::num::wrapping_add_u64(t.equal, same as u64),
-    }
-}
 
 fn wide(x: u16) -> usize {
     x as usize
@@ -47,24 +29,16 @@ fn put(e: [u16; 1024], i: usize, x: u16) -> [u16; 1024] {
 }
 
 pub fn alike(a: &[u16; 1024], b: &[u16; 1024]) -> bool {
-    let mut i = 0;
-    while i < 1024 {
-        if a[i] != b[i] {
-            return false;
-        }
-        i += 1;
-    }
-    true
+    tally::same_words(a, b)
 }
 
-pub fn answered(a: answers::Answer, number: usize, place: usize, count: usize) -> bool {
-    if a.number != number {
-        return false;
-    }
-    if a.place != place {
-        return false;
-    }
-    a.count == count
+pub fn answered(a: Answer, number: usize, place: usize, count: usize) -> bool {
+    let right = Answer {
+        number,
+        place,
+        count,
+    };
+    tally::same_answer(a, right)
 }
 
 // A reply with this answer and this record.
@@ -96,11 +70,11 @@ pub fn compare(
     length: usize,
     e: [u16; 1024],
 ) -> Tally {
-    tallied(t, replied(r, number, place, 0, length, &e))
+    tally::tallied(t, replied(r, number, place, 0, length, &e))
 }
 
 pub fn accepted(t: Tally, r: Reply, count: usize, length: usize, e: [u16; 1024]) -> Tally {
-    tallied(t, replied(r, 0, 0, count, length, &e))
+    tally::tallied(t, replied(r, 0, 0, count, length, &e))
 }
 
 // The first of n entries that is n or more, or was marked before; else n.

@@ -1,7 +1,7 @@
 // Every refusal, with its place and with what comes back.
 use crate::plain;
-use crate::plain::Tally;
 use permutation::Permutation;
+use tally::Tally;
 
 // 0 .. n - 1 with x at place i.
 fn spoiled(n: usize, i: usize, x: u16) -> Permutation {
@@ -73,8 +73,8 @@ fn of_shuffle(t: Tally, n: usize, count: usize, room: usize, number: usize) -> T
         return t;
     }
     let a = shuffle::shuffle(n, &words[..count], &mut out[..room]);
-    let t1 = plain::tallied(t, plain::answered(a, number, 0, 0));
-    plain::tallied(t1, plain::alike(&out, &[7u16; 1024]))
+    let t1 = tally::tallied(t, plain::answered(a, number, 0, 0));
+    tally::tallied(t1, plain::alike(&out, &[7u16; 1024]))
 }
 
 fn of_shuffles(t: Tally) -> Tally {

@@ -1,8 +1,6 @@
 // The refusals, each with its number and place written out, and document 01's cases m and n.
 use crate::part;
-use crate::plain;
-use crate::tally;
-use crate::tally::Tally;
+use tally::Tally;
 ghost use Prim.Native.Nat.{_≤_};
 
 // A sheet of `length` bytes, read into `room` of 24 bytes: refused so, and no byte is written.
@@ -19,8 +17,8 @@ fn no_sheet(
     let mut bits = [7u8; 24];
     let kept = [7u8; 24];
     let r = part::read(&bytes, length, &mut bits, room);
-    let t1 = tally::answers(t, r, plain::answer(number, place, 0));
-    tally::tallied(t1, plain::same(&bits, &kept))
+    let t1 = tally::tallied(t, tally::same_answer(r, answers::refuse(number, place)));
+    tally::tallied(t1, check::same(&bits, &kept))
 }
 
 // A setting of `count` bytes for n places, written into `room` of 8 bytes: refused so, and no byte is written.
@@ -38,8 +36,8 @@ fn no_setting(
     let mut out = [7u8; 8];
     let kept = [7u8; 8];
     let r = part::write(n, &bytes, count, &mut out, room);
-    let t1 = tally::answers(t, r, plain::answer(number, place, 0));
-    tally::tallied(t1, plain::same(&out, &kept))
+    let t1 = tally::tallied(t, tally::same_answer(r, answers::refuse(number, place)));
+    tally::tallied(t1, check::same(&out, &kept))
 }
 
 // 8, 9 and 10 at the form.

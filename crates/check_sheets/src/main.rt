@@ -3,9 +3,7 @@
 mod cases;
 mod part;
 mod plain;
-mod tally;
 
-use libc::STDOUT_FILENO;
 use numbers::ReadNumber;
 use tally::Tally;
 ghost use Prim.Native.Nat.{_≤_, _<_};
@@ -20,7 +18,10 @@ fn compare_write(t: Tally, n: usize, bits: &[u8], w: usize, room: usize) -> Tall
     let mut b = [255u8; 1400];
     let x = part::write(n, bits, w, &mut a, room);
     let y = part::plain_write(n, bits, w, &mut b, room);
-    tally::tallied(tally::answers(t, x, y), plain::same(&a, &b))
+    tally::tallied(
+        tally::tallied(t, tally::same_answer(x, y)),
+        check::same(&a, &b),
+    )
 }
 
 fn compare_read(t: Tally, s: &[u8], end: usize, room: usize) -> Tally
@@ -30,7 +31,10 @@ fn compare_read(t: Tally, s: &[u8], end: usize, room: usize) -> Tally
     let mut b = [255u8; 9300];
     let x = part::read(s, end, &mut a, room);
     let y = part::plain_read(s, end, &mut b, room);
-    tally::tallied(tally::answers(t, x, y), plain::same(&a, &b))
+    tally::tallied(
+        tally::tallied(t, tally::same_answer(x, y)),
+        check::same(&a, &b),
+    )
 }
 
 // The same for the short sheets, of at most 15 places.
@@ -41,7 +45,10 @@ fn compare_short(t: Tally, s: &[u8; 4], end: usize) -> Tally
     let mut b = [255u8; 48];
     let x = part::read(s, end, &mut a, 48);
     let y = part::plain_read(s, end, &mut b, 48);
-    tally::tallied(tally::answers(t, x, y), plain::same(&a, &b))
+    tally::tallied(
+        tally::tallied(t, tally::same_answer(x, y)),
+        check::same(&a, &b),
+    )
 }
 
 fn compare_number(t: Tally, s: &[u8], at: usize) -> Tally {
@@ -52,10 +59,12 @@ fn compare_number(t: Tally, s: &[u8], at: usize) -> Tally {
             t,
             same_number(y.number, value, y.value, next, y.next),
         ),
-        ReadNumber::Refused(question, place) => tally::answers(
+        ReadNumber::Refused(question, place) => tally::tallied(
             t,
-            plain::answer(question, place, 0),
-            plain::answer(y.number, y.place, 0),
+            tally::same_answer(
+                answers::refuse(question, place),
+                answers::refuse(y.number, y.place),
+            ),
         ),
     }
 }
@@ -123,7 +132,7 @@ fn back(t: Tally, s: &[u8], end: usize, bits: &[u8], w: usize) -> Tally
     let mut b = [255u8; 9300];
     part::read(s, end, &mut a, 9300);
     plain::copy(bits, w, &mut b);
-    tally::tallied(t, plain::same(&a, &b))
+    tally::tallied(t, check::same(&a, &b))
 }
 
 // A last number with a higher bit set, and one that asks for another byte.
@@ -224,20 +233,9 @@ fn shorts() -> Tally {
     t
 }
 
-// ---- what is printed
-
-fn print(text: &[u8], t: Tally) {
-    io::write_all(STDOUT_FILENO, text);
-    io::write_all(STDOUT_FILENO, b" compared ");
-    io::print_decimal(STDOUT_FILENO, t.compared);
-    io::write_all(STDOUT_FILENO, b" equal ");
-    io::print_decimal(STDOUT_FILENO, t.equal);
-    io::write_all(STDOUT_FILENO, b"\n");
-}
-
 fn main() {
-    print(b"refusals", cases::run());
-    print(b"numbers", pairs());
-    print(b"short sheets", shorts());
-    print(b"round trips", trips());
+    tally::print(b"refusals", cases::run());
+    tally::print(b"numbers", pairs());
+    tally::print(b"short sheets", shorts());
+    tally::print(b"round trips", trips());
 }

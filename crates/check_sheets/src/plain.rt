@@ -55,20 +55,6 @@ pub fn copy(from: &[u8], n: usize, out: &mut [u8]) {
     }
 }
 
-pub fn same(a: &[u8], b: &[u8]) -> bool {
-    if a.len() != b.len() {
-        return false;
-    }
-    let mut i = 0;
-    while i < a.len() {
-        if a[i] != b[i] {
-            return false;
-        }
-        i += 1;
-    }
-    true
-}
-
 // ---- writing
 
 fn put_number(out: &mut [u8], at: usize, v: usize) -> usize {

@@ -6,16 +6,16 @@ use Rattle.check_permutation.proofs.check_shuffles.Statement.{statement
 use Rattle.check_permutation.proofs.check_shuffles.Tie as tie
 
 abbrev Inv-loop : tie.InvT-loop
-Inv-loop t₀ k₀ seed₀ t k seed = k ≤ 33
+Inv-loop t₀ k₀ seed₀ t k seed = k ≤ 45
 
 abbrev μ-loop : tie.MeasureT-loop
-μ-loop t₀ k₀ seed₀ t k seed = 33 - k
+μ-loop t₀ k₀ seed₀ t k seed = 45 - k
 
 loop-holds : tie.Need-loop-holds Inv-loop μ-loop
 loop-holds c = search needs
 
-mul-check-shuffle : tie.Need-mul-check-shuffle Inv-loop μ-loop
-mul-check-shuffle c = search needs
+size-requires : tie.Need-size-requires Inv-loop μ-loop
+size-requires c κs = search needs
 
 check-shuffle-requires : tie.Need-check-shuffle-requires Inv-loop μ-loop
 check-shuffle-requires c κs = search needs
@@ -32,9 +32,6 @@ loop-less c = search needs
 loop-again : tie.Need-loop-again Inv-loop μ-loop
 loop-again c = search needs
 
-check-shuffle-requires-2 : tie.Need-check-shuffle-requires-2 Inv-loop μ-loop
-check-shuffle-requires-2 c κs = search needs
-
 returns : tie.Need-returns Inv-loop μ-loop
 returns c = search needs
 
@@ -45,11 +42,10 @@ check-shuffles-spec =
     Inv-loop
     μ-loop
     loop-holds
-    mul-check-shuffle
+    size-requires
     check-shuffle-requires
     next-requires
     add-k
     loop-less
     loop-again
-    check-shuffle-requires-2
     returns)

@@ -1,0 +1,55 @@
+-- `check_control::replay::step5` meets its contract.
+-- Assumes nothing.
+use borrow.Author.Needs.{needs}
+use Prim.Native.Nat.{_-_, _≤_}
+use Rattle.check_control.proofs.replay.step5.Statement.{statement}
+use Rattle.check_control.proofs.replay.step5.Tie as tie
+
+abbrev Inv-loop : tie.InvT-loop
+Inv-loop table₀ o m k p₀ table p = p ≤ m
+
+abbrev μ-loop : tie.MeasureT-loop
+μ-loop table₀ o m k p₀ table p = m - p
+
+up-requires : tie.Need-up-requires Inv-loop μ-loop
+up-requires c κs = search needs
+
+loop-holds : tie.Need-loop-holds Inv-loop μ-loop
+loop-holds c = search needs
+
+at-requires : tie.Need-at-requires Inv-loop μ-loop
+at-requires c κs = search needs
+
+gained-requires : tie.Need-gained-requires Inv-loop μ-loop
+gained-requires c κs = search needs
+
+put-requires : tie.Need-put-requires Inv-loop μ-loop
+put-requires c κs = search needs
+
+add-p : tie.Need-add-p Inv-loop μ-loop
+add-p c = search needs
+
+loop-less : tie.Need-loop-less Inv-loop μ-loop
+loop-less c = search needs
+
+loop-again : tie.Need-loop-again Inv-loop μ-loop
+loop-again c = search needs
+
+returns : tie.Need-returns Inv-loop μ-loop
+returns c = search needs
+
+pub step5-spec : {M : Type 1} → statement M
+step5-spec =
+    tie.close
+    (tie.spec
+    Inv-loop
+    μ-loop
+    up-requires
+    loop-holds
+    at-requires
+    gained-requires
+    put-requires
+    add-p
+    loop-less
+    loop-again
+    returns)

@@ -1,0 +1,92 @@
+// What the check programs compare and count with; no part of the mixer.
+use answers::Answer;
+ghost use mathlib.Core.Path.{_≡_};
+ghost use mathlib.Core.Bool.{true};
+ghost use Prim.Native.Nat.{_*_, _≤_};
+ghost use Rattle.tally.specs.Tallies.{nothing, one, counted};
+
+// How many outcomes were compared, and how many of them were equal.
+pub struct Tally {
+    pub compared: u64,
+    pub equal: u64,
+}
+
+pub fn none() -> Tally
+    ensures { λ r. ⌜ r ≡ nothing ⌝ }
+{
+    Tally {
+        compared: 0,
+        equal: 0,
+    }
+}
+
+fn one(same: bool) -> u64
+    ensures { λ r. ⌜ r ≡ one same ⌝ }
+{
+    if same { 1 } else { 0 }
+}
+
+pub fn tallied(t: Tally, same: bool) -> Tally
+    ensures { λ r. ⌜ r ≡ counted t same ⌝ }
+{
+    Tally {
+        compared: std::num::wrapping_add_u64(t.compared, 1),
+        equal: std::num::wrapping_add_u64(t.equal, one(same)),
+    }
+}
+
+// Whether two answers are the same: true is said only of such.
+pub fn same_answer(a: Answer, b: Answer) -> bool
+    ensures { λ r. ⌜ (r ≡ true → a ≡ b) ⌝ }
+{
+    if a.number != b.number {
+        return false;
+    }
+    if a.place != b.place {
+        return false;
+    }
+    if a.count != b.count {
+        return false;
+    }
+    true
+}
+
+// Whether two slices hold the same words: true is said only of such.
+pub fn same_words(a: &[u16], b: &[u16]) -> bool
+    ensures { λ r. ⌜ (r ≡ true → now (a .entry) ≡ now (b .entry)) ⌝ }
+{
+    if a.len() != b.len() {
+        return false;
+    }
+    let mut i = 0;
+    while i < a.len() {
+        if a[i] != b[i] {
+            return false;
+        }
+        i += 1;
+    }
+    true
+}
+
+// The bytes of n blocks, where n and the width are what a call takes; else 0.
+pub fn times(n: usize, width: usize) -> usize
+    ensures { λ r. ⌜ (r ≤ 262144) × (n ≤ 1024 → width ≤ 256 → r ≡ n * width) ⌝ }
+{
+    if 1024 < n {
+        return 0;
+    }
+    if 256 < width {
+        return 0;
+    }
+    n * width
+}
+
+// A line with both numbers. What is written out cannot be promised.
+pub fn print(label: &[u8], t: Tally) {
+    io::write_all(1, label);
+    io::write_all(1, b": compared ");
+    io::print_decimal(1, t.compared);
+    io::write_all(1, b", equal ");
+    io::print_decimal(1, t.equal);
+    io::write_all(1, b"\n");
+}
