@@ -137,11 +137,11 @@ write-only n bits out e =
 
 -- ---- when read sheet is accepted
 
-numbered-both : (qs rs : List Question) → Numbered qs → Numbered rs → Numbered (qs ++ rs)
+pub numbered-both : (qs rs : List Question) → Numbered qs → Numbered rs → Numbered (qs ++ rs)
 numbered-both [] rs h g = g
 numbered-both (q ∷ qs) rs h g = (h .0, numbered-both qs rs (h .1) g)
 
-numbered-row : (k : ℕ) (input : List ℕ) (at : ℕ) → Numbered (numbersQuestions k input at)
+pub numbered-row : (k : ℕ) (input : List ℕ) (at : ℕ) → Numbered (numbersQuestions k input at)
 unfolding numbersQuestions
 numbered-row zero input at = tt
 numbered-row (suc k) input at =
