@@ -4,7 +4,7 @@ use mathlib.Core.Path.{_≡_, refl, sym, ap, _∙_}
 use mathlib.Core.List.{List, _++_}
 use Prim.Native.Nat.{ℕ, _≤_}
 use native.Mathlib.Omega.{arith}
-use lib.ListN.{length, take, drop}
+use lib.ListN.{length, take, drop, length-append}
 use lib.Seq.{take-at}
 use Rattle.answers.specs.declared.Answer.{Answer}
 use Rattle.answers.specs.Questions.{allYes, firstNo}
@@ -35,6 +35,7 @@ pub record Accepted (input : List ℕ) (a : Answer) (bits : List ℕ) : Type 0 w
   pub asked : firstNo (orderQuestions input) ≡ allYes
   pub places : a .count ≡ countIn input
   pub few : a .count ≤ 1024
+  pub room : W (a .count) ≤ length bits
   pub setting : take (W (a .count)) bits ≡ settingFor (orderIn input)
 
 pub order-accepted : (input before : List ℕ) {a : Answer} {bits : List ℕ}
@@ -60,5 +61,6 @@ order-accepted input before {a} {bits} O z =
       asked = yes;
       places = places;
       few = rw places (places-small input (both .first));
+      room = omega (arith, long, ap length front, length-append (settingFor order) (drop (length (settingFor order)) before));
       setting = rw front (take-at (settingFor order) (drop (length (settingFor order)) before) (W (a .count)) long);
     }

@@ -1,14 +1,12 @@
+-- `lines::bit_character` meets its contract.
+-- Assumes nothing.
 use Rattle.lines.proofs.Lines.{bit-one, bit-other}
 use Rattle.lines.proofs.bit_character.Statement.{statement}
 use Rattle.lines.proofs.bit_character.Tie as tie
-use Rattle.lines.proofs.bit_character.Reads as reads
-use Rattle.lines.proofs.bit_character.Lts as lts
 
--- src/lib.rt:42:1
 returns : tie.Need-returns
 returns c = bit-one _ (c .if1 .taken)
 
--- src/lib.rt:42:1
 returns-2 : tie.Need-returns-2
 returns-2 c = bit-other _ (c .if1 .left)
 

@@ -1,3 +1,5 @@
+-- `lines::put_bits` meets its contract.
+-- Assumes nothing.
 use mathlib.Core.Path.{sym, _∙_}
 use native.Mathlib.Omega.{arith}
 use Prim.Native.Nat.{_-_}
@@ -7,10 +9,6 @@ use Rattle.lines.specs.Text.{characters}
 use Rattle.lines.proofs.Lines.{Laying, lay-starts, lay-more, lay-ends, length-characters, character-at, bits-none, bits-some, bits-long}
 use Rattle.lines.proofs.put_bits.Statement.{statement}
 use Rattle.lines.proofs.put_bits.Tie as tie
-use Rattle.lines.proofs.put_bits.Reads as reads
-use Rattle.lines.proofs.put_bits.Lts as lts
-use Rattle.lines.proofs.bit_character.Reads as bit-character-reads
-use Rattle.lines.proofs.put_text.Reads as put-text-reads
 
 abbrev Inv-loop : tie.InvT-loop
 Inv-loop out₀ at bits i₀ out i = Laying (characters bits) out₀ at out i
@@ -18,63 +16,48 @@ Inv-loop out₀ at bits i₀ out i = Laying (characters bits) out₀ at out i
 abbrev μ-loop : tie.MeasureT-loop
 μ-loop out₀ at bits i₀ out i = length bits - i
 
--- src/lib.rt:53:34
 slice-aggregate-put-text : tie.Need-slice-aggregate-put-text Inv-loop μ-loop
 slice-aggregate-put-text c = search needs
 
--- src/lib.rt:53:9
 put-text-requires : tie.Need-put-text-requires Inv-loop μ-loop
 put-text-requires c κs = rw (bits-none _ (c .before .before .if1 .taken)) at (c .before .before .before .before .before .pre)
 
--- src/lib.rt:53:9
 same-length : tie.Need-same-length Inv-loop μ-loop
 same-length c = search needs
 
--- src/lib.rt:53:9
 returns : tie.Need-returns Inv-loop μ-loop
 returns c = rw (bits-none _ (c .before .before .before .before .before .if1 .taken)) (c .before .before .put-text .ensures)
 
--- src/lib.rt:56:5
 loop-holds : tie.Need-loop-holds Inv-loop μ-loop
 loop-holds c = lay-starts _ _ _
 
--- src/lib.rt:57:37
 shared-slice-read-bit-character : tie.Need-shared-slice-read-bit-character Inv-loop μ-loop
 shared-slice-read-bit-character c = omega (arith, length-characters (c .before .before .before .before .before .before .args .bits .now))
 
--- src/lib.rt:57:23
 bit-character-requires : tie.Need-bit-character-requires Inv-loop μ-loop
 bit-character-requires c κs = search needs
 
--- src/lib.rt:57:13
 add-out : tie.Need-add-out Inv-loop μ-loop
 add-out c = omega (arith, bits-long (c .before .before .before .before .before .before .before .args .bits .now) (c .before .before .before .before .if1 .left), length-characters (c .before .before .before .before .before .before .before .args .bits .now), c .before .before .before .before .before .before .before .pre, c .before .before .before .loop .inv .within)
 
--- src/lib.rt:57:9
 slice-write-out : tie.Need-slice-write-out Inv-loop μ-loop
 slice-write-out c = omega (arith, bits-long (c .before .before .before .before .before .before .before .args .bits .now) (c .before .before .before .before .if1 .left), c .before .before .loop-test .taken, c .before .before .before .before .before .before .before .pre, c .before .before .before .loop .inv .same)
 
--- src/lib.rt:58:9
 add-i : tie.Need-add-i Inv-loop μ-loop
 add-i c = omega (arith, length-characters (c .before .before .before .before .before .before .before .args .bits .now))
 
--- src/lib.rt:56:5
 loop-less : tie.Need-loop-less Inv-loop μ-loop
 loop-less c = search needs
 
--- src/lib.rt:56:5
 loop-again : tie.Need-loop-again Inv-loop μ-loop
 loop-again c = lay-more _ _ _ _ _ (c .before .before .before .loop .inv) _ (omega (arith, length-characters (c .before .before .before .before .before .before .before .args .bits .now), c .before .before .loop-test .taken)) (omega (arith, bits-long (c .before .before .before .before .before .before .before .args .bits .now) (c .before .before .before .before .if1 .left), length-characters (c .before .before .before .before .before .before .before .args .bits .now), c .before .before .before .before .before .before .before .pre)) (c .bit-character .ensures ∙ sym (character-at _ _ (c .before .before .loop-test .taken)))
 
--- src/lib.rt:60:5
 add-result : tie.Need-add-result Inv-loop μ-loop
 add-result c = omega (arith, bits-long (c .before .before .before .before .before .args .bits .now) (c .before .before .if1 .left), length-characters (c .before .before .before .before .before .args .bits .now), c .before .before .before .before .before .pre, c .before .loop .inv .within)
 
--- src/lib.rt:48:1
 same-length-2 : tie.Need-same-length-2 Inv-loop μ-loop
 same-length-2 c = search needs
 
--- src/lib.rt:48:1
 returns-2 : tie.Need-returns-2 Inv-loop μ-loop
 returns-2 c = rw (bits-some _ (c .before .before .if1 .left)) (lay-ends _ _ _ _ _ (c .before .loop .inv) (omega (arith, length-characters (c .before .before .before .before .before .args .bits .now), c .loop-test .left)))
 

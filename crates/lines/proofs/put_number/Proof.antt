@@ -1,36 +1,27 @@
+-- `lines::put_number` meets its contract.
+-- Assumes nothing.
 use mathlib.Core.List.{_++_}
 use Rattle.lines.specs.Text.{text, decimal}
-use native.Mathlib.Omega.{arith}
 use Rattle.lines.proofs.Lines.{room-first, room-second, room-third, put-three}
 use borrow.Author.Needs.{needs}
 use Rattle.lines.proofs.put_number.Statement.{statement}
 use Rattle.lines.proofs.put_number.Tie as tie
-use Rattle.lines.proofs.put_number.Reads as reads
-use Rattle.lines.proofs.put_number.Lts as lts
-use Rattle.lines.proofs.put_decimal.Reads as put-decimal-reads
-use Rattle.lines.proofs.put_text.Reads as put-text-reads
 
--- src/lib.rt:68:9
 put-text-requires : tie.Need-put-text-requires
 put-text-requires c κs = room-first (c .before .before .before .args .out .now) (c .before .before .before .args .at) (c .before .before .before .args .label .now) (decimal (c .before .before .before .args .v) ++ text "\n") (c .before .before .before .pre)
 
--- src/lib.rt:69:9
 put-decimal-requires : tie.Need-put-decimal-requires
 put-decimal-requires c κs = room-second (decimal (c .before .before .before .before .before .before .before .args .v)) (text "\n") (c .before .before .before .put-text .ensures) (c .before .before .before .before .before .before .before .pre)
 
--- src/lib.rt:70:22
 slice-aggregate-put-text : tie.Need-slice-aggregate-put-text
 slice-aggregate-put-text c = search needs
 
--- src/lib.rt:70:5
 put-text-requires-2 : tie.Need-put-text-requires-2
 put-text-requires-2 c κs = room-third (decimal (c .before .before .before .before .before .before .before .before .before .before .before .before .args .v)) (text "\n") (c .before .before .before .before .before .before .before .before .put-text .ensures) (c .before .before .before .before .before .before .before .before .before .before .before .before .pre) (c .before .before .before .before .put-decimal .ensures)
 
--- src/lib.rt:64:1
 same-length : tie.Need-same-length
 same-length c = search needs
 
--- src/lib.rt:64:1
 returns : tie.Need-returns
 returns c = put-three _ _ (c .before .before .before .before .before .before .before .before .before .before .before .put-text .ensures) (c .before .before .before .before .before .before .before .before .before .before .before .before .before .before .before .pre) (c .before .before .before .before .before .before .before .put-decimal .ensures) (c .before .before .put-text2 .ensures)
 

@@ -1,39 +1,30 @@
+-- `lines::put_setting` meets its contract.
+-- Assumes nothing.
 use mathlib.Core.List.{_++_}
 use Rattle.lines.specs.Text.{text, bitsText}
 use Rattle.lines.proofs.Lines.{room-first, room-second, room-third, put-three}
 use borrow.Author.Needs.{needs}
 use Rattle.lines.proofs.put_setting.Statement.{statement}
 use Rattle.lines.proofs.put_setting.Tie as tie
-use Rattle.lines.proofs.put_setting.Reads as reads
-use Rattle.lines.proofs.put_setting.Lts as lts
-use Rattle.lines.proofs.put_bits.Reads as put-bits-reads
-use Rattle.lines.proofs.put_text.Reads as put-text-reads
 
--- src/lib.rt:77:31
 slice-aggregate-put-text : tie.Need-slice-aggregate-put-text
 slice-aggregate-put-text c = search needs
 
--- src/lib.rt:77:9
 put-text-requires : tie.Need-put-text-requires
 put-text-requires c κs = room-first (c .before .before .before .before .args .out .now) (c .before .before .before .before .args .at) (text "setting ") (bitsText (c .before .before .before .before .args .bits .now) ++ text "\n") (c .before .before .before .before .pre)
 
--- src/lib.rt:78:9
 put-bits-requires : tie.Need-put-bits-requires
 put-bits-requires c κs = room-second (bitsText (c .before .before .before .before .before .before .before .before .args .bits .now)) (text "\n") (c .before .before .before .put-text .ensures) (c .before .before .before .before .before .before .before .before .pre)
 
--- src/lib.rt:79:22
 slice-aggregate-put-text-2 : tie.Need-slice-aggregate-put-text-2
 slice-aggregate-put-text-2 c = search needs
 
--- src/lib.rt:79:5
 put-text-requires-2 : tie.Need-put-text-requires-2
 put-text-requires-2 c κs = room-third (bitsText (c .before .before .before .before .before .before .before .before .before .before .before .before .before .args .bits .now)) (text "\n") (c .before .before .before .before .before .before .before .before .put-text .ensures) (c .before .before .before .before .before .before .before .before .before .before .before .before .before .pre) (c .before .before .before .before .put-bits .ensures)
 
--- src/lib.rt:73:1
 same-length : tie.Need-same-length
 same-length c = search needs
 
--- src/lib.rt:73:1
 returns : tie.Need-returns
 returns c = put-three _ _ (c .before .before .before .before .before .before .before .before .before .before .before .put-text .ensures) (c .before .before .before .before .before .before .before .before .before .before .before .before .before .before .before .before .pre) (c .before .before .before .before .before .before .before .put-bits .ensures) (c .before .before .put-text2 .ensures)
 

@@ -1,3 +1,5 @@
+-- `lines::put_text` meets its contract.
+-- Assumes nothing.
 use mathlib.Core.Path.{refl}
 use Prim.Native.Nat.{_-_}
 use native.Mathlib.Omega.{arith}

@@ -1,3 +1,5 @@
+-- `orders::order_setting` meets its contract.
+-- Assumes nothing.
 use mathlib.Core.Path.{sym}
 use mathlib.Core.List.{[]}
 use native.Mathlib.Omega.{arith}
@@ -7,49 +9,34 @@ use Rattle.orders.proofs.Asking.{form-refused, places-few, then-set}
 use borrow.Author.Needs.{needs}
 use Rattle.orders.proofs.order_setting.Statement.{statement}
 use Rattle.orders.proofs.order_setting.Tie as tie
-use Rattle.orders.proofs.order_setting.Reads as reads
-use Rattle.orders.proofs.order_setting.Lts as lts
-use Rattle.numbers.proofs.answer.Reads as answer-reads
-use Rattle.orders.proofs.read_order.Reads as read-order-reads
-use Rattle.orders.proofs.set.Reads as set-reads
 
--- src/lib.rt:88:34
 slice-aggregate-read-order : tie.Need-slice-aggregate-read-order
 slice-aggregate-read-order c = search needs
 
--- src/lib.rt:88:9
 read-order-requires : tie.Need-read-order-requires
 read-order-requires c κs = search needs
 
--- src/lib.rt:89:28
 enum-known-read : tie.Need-enum-known-read
 enum-known-read c = search needs
 
--- src/lib.rt:90:9
 enum-told : tie.Need-enum-told
 enum-told c = search needs
 
--- src/lib.rt:90:9
 answer-requires : tie.Need-answer-requires
 answer-requires c κs = search needs
 
--- src/lib.rt:90:9
 returns : tie.Need-returns
 returns c = form-refused _ _ (c .before .before .before .before .read-order .ensures) (c .before .enum-told .given .1) (c .answer .ensures)
 
--- src/lib.rt:92:9
 array-share-prefix-order : tie.Need-array-share-prefix-order
 array-share-prefix-order c = omega (arith, places-few _ [] (c .before .before .before .before .read-order .ensures) (c .before .read .given .1), c .before .before .before .before .read-order .kept .1 .0)
 
--- src/lib.rt:92:9
 slice-aggregate-set : tie.Need-slice-aggregate-set
 slice-aggregate-set c = sym (length-take-le _ (c .before .before .before .before .before .read-order .last .1 .0) (omega (arith, places-few _ [] (c .before .before .before .before .before .read-order .ensures) (c .before .before .read .given .1), c .before .before .before .before .before .read-order .kept .1 .0)))
 
--- src/lib.rt:92:5
 set-requires : tie.Need-set-requires
 set-requires c κs = (omega (arith, length-take (c .before .before .before .read .given .0 .0) (c .before .before .before .before .before .before .read-order .last .1 .0), places-few _ [] (c .before .before .before .before .before .before .read-order .ensures) (c .before .before .before .read .given .1)), search needs)
 
--- src/lib.rt:84:1
 returns-2 : tie.Need-returns-2
 returns-2 c = then-set _ _ (c .before .before .before .before .before .before .before .read-order .ensures) (c .before .before .before .before .read .given .1) (c .set .ensures)
 

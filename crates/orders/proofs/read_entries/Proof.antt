@@ -1,3 +1,5 @@
+-- `orders::read_entries` meets its contract.
+-- Assumes nothing.
 use mathlib.Core.Path.{sym, ap, _∙_}
 use Prim.Native.Nat.{_-_}
 use native.Mathlib.Omega.{arith}
@@ -7,9 +9,6 @@ use Rattle.numbers.proofs.Numbers.{reads, value-small}
 use Rattle.orders.proofs.Asking.{Reads-on, entries-start, entries-more, entries-stop, entries-end}
 use Rattle.orders.proofs.read_entries.Statement.{statement}
 use Rattle.orders.proofs.read_entries.Tie as tie
-use Rattle.orders.proofs.read_entries.Reads as reads
-use Rattle.orders.proofs.read_entries.Lts as lts
-use Rattle.numbers.proofs.read_number.Reads as read-number-reads
 
 abbrev Inv-loop : tie.InvT-loop
 Inv-loop input start n order₀ at₀ j₀ order at j = Reads-on input start n order₀ order at j
@@ -17,59 +16,45 @@ Inv-loop input start n order₀ at₀ j₀ order at j = Reads-on input start n o
 abbrev μ-loop : tie.MeasureT-loop
 μ-loop input start n order₀ at₀ j₀ order at j = n - j
 
--- src/lib.rt:110:5
 loop-holds : tie.Need-loop-holds Inv-loop μ-loop
 loop-holds c = entries-start _ _ _ _
 
--- src/lib.rt:111:13
 read-number-requires : tie.Need-read-number-requires Inv-loop μ-loop
 read-number-requires c κs = search needs
 
--- src/lib.rt:112:32
 enum-known-entry : tie.Need-enum-known-entry Inv-loop μ-loop
 enum-known-entry c = search needs
 
--- src/lib.rt:113:13
 enum-told : tie.Need-enum-told Inv-loop μ-loop
 enum-told c = search needs
 
--- src/lib.rt:113:13
 same-length : tie.Need-same-length Inv-loop μ-loop
 same-length c = search needs
 
--- src/lib.rt:113:13
 returns : tie.Need-returns Inv-loop μ-loop
 returns c = entries-stop _ _ _ _ _ _ _ (c .before .before .before .before .loop .inv) _ _ _ (c .before .before .before .loop-test .taken) (c .enum-told .given .1) (c .before .before .read-number .ensures)
 
--- src/lib.rt:115:20
 cast-order : tie.Need-cast-order Inv-loop μ-loop
 cast-order c = omega (arith, reads _ _ _ _ (ap meaning (sym (c .before .entry .given .1)) ∙ c .before .before .before .read-number .ensures) .value, value-small (c .before .before .before .before .before .before .before .before .args .input .now) (c .before .before .before .before .before .loop .at))
 
--- src/lib.rt:115:9
 mul-order : tie.Need-mul-order Inv-loop μ-loop
 mul-order c = search needs
 
--- src/lib.rt:115:9
 slice-write-order : tie.Need-slice-write-order Inv-loop μ-loop
 slice-write-order c = search needs
 
--- src/lib.rt:117:9
 add-j : tie.Need-add-j Inv-loop μ-loop
 add-j c = search needs
 
--- src/lib.rt:110:5
 loop-less : tie.Need-loop-less Inv-loop μ-loop
 loop-less c = search needs
 
--- src/lib.rt:110:5
 loop-again : tie.Need-loop-again Inv-loop μ-loop
 loop-again c = entries-more _ _ _ _ _ _ _ (c .before .before .before .before .before .loop .inv) _ _ (omega arith) (omega arith) (ap meaning (sym (c .before .entry .given .1)) ∙ c .before .before .before .read-number .ensures)
 
--- src/lib.rt:103:1
 same-length-2 : tie.Need-same-length-2 Inv-loop μ-loop
 same-length-2 c = search needs
 
--- src/lib.rt:103:1
 returns-2 : tie.Need-returns-2 Inv-loop μ-loop
 returns-2 c = entries-end _ _ _ _ _ _ _ (c .before .loop .inv) (c .loop-test .left)
 

@@ -1,3 +1,5 @@
+-- `orders::read_order` meets its contract.
+-- Assumes nothing.
 use mathlib.Core.Path.{sym, ap, _∙_}
 use Rattle.numbers.specs.Reading.{meaning}
 use Rattle.numbers.proofs.Numbers.{reads}
@@ -5,64 +7,46 @@ use Rattle.orders.proofs.Asking.{count-stops, count-large, row-stop, su
 use borrow.Author.Needs.{needs}
 use Rattle.orders.proofs.read_order.Statement.{statement}
 use Rattle.orders.proofs.read_order.Tie as tie
-use Rattle.orders.proofs.read_order.Reads as reads
-use Rattle.orders.proofs.read_order.Lts as lts
-use Rattle.numbers.proofs.read_number.Reads as read-number-reads
-use Rattle.orders.proofs.read_entries.Reads as read-entries-reads
 
--- src/lib.rt:129:9
 read-number-requires : tie.Need-read-number-requires
 read-number-requires c κs = search needs
 
--- src/lib.rt:130:28
 enum-known-count : tie.Need-enum-known-count
 enum-known-count c = search needs
 
--- src/lib.rt:131:9
 enum-told : tie.Need-enum-told
 enum-told c = search needs
 
--- src/lib.rt:131:9
 returns : tie.Need-returns
 returns c = count-stops _ (c .enum-told .given .1) (c .before .before .read-number .ensures)
 
--- src/lib.rt:134:9
 returns-2 : tie.Need-returns-2
 returns-2 c = count-large _ (reads _ _ _ _ (ap meaning (sym (c .before .before .count .given .1)) ∙ c .before .before .before .before .read-number .ensures)) (c .if1 .taken)
 
--- src/lib.rt:136:9
 read-entries-requires : tie.Need-read-entries-requires
 read-entries-requires c κs = search needs
 
--- src/lib.rt:137:31
 enum-known-entries : tie.Need-enum-known-entries
 enum-known-entries c = search needs
 
--- src/lib.rt:138:9
 enum-told-2 : tie.Need-enum-told-2
 enum-told-2 c = search needs
 
--- src/lib.rt:138:9
 same-length : tie.Need-same-length
 same-length c = search needs
 
--- src/lib.rt:138:9
 returns-3 : tie.Need-returns-3
 returns-3 c = row-stop _ (reads _ _ _ _ (ap meaning (sym (c .before .before .before .before .before .before .before .before .count .given .1)) ∙ c .before .before .before .before .before .before .before .before .before .before .read-number .ensures)) (c .before .before .before .before .before .before .if1 .left) (c .before .before .before .before .read-entries .ensures) (c .enum-told2 .given .1)
 
--- src/lib.rt:141:9
 same-length-2 : tie.Need-same-length-2
 same-length-2 c = search needs
 
--- src/lib.rt:141:9
 returns-4 : tie.Need-returns-4
 returns-4 c = surplus _ (reads _ _ _ _ (ap meaning (sym (c .before .before .before .before .before .before .before .before .before .before .count .given .1)) ∙ c .before .before .before .before .before .before .before .before .before .before .before .before .read-number .ensures)) (c .before .before .before .before .before .before .before .before .if1 .left) (c .before .before .before .before .before .before .read-entries .ensures) (c .before .before .entries .given .1) (c .if2 .taken)
 
--- src/lib.rt:124:1
 same-length-3 : tie.Need-same-length-3
 same-length-3 c = search needs
 
--- src/lib.rt:124:1
 returns-5 : tie.Need-returns-5
 returns-5 c = order-done _ (reads _ _ _ _ (ap meaning (sym (c .before .before .before .before .before .before .before .before .before .before .count .given .1)) ∙ c .before .before .before .before .before .before .before .before .before .before .before .before .read-number .ensures)) (c .before .before .before .before .before .before .before .before .if1 .left) (c .before .before .before .before .before .before .read-entries .ensures) (c .before .before .entries .given .1) (c .if2 .left)
 

@@ -1,3 +1,5 @@
+-- `orders::set` meets its contract.
+-- Assumes nothing.
 use mathlib.Core.Path.{sym}
 use Prim.Native.Nat.{ℕ, _*_}
 use native.Mathlib.Omega.{arith}
@@ -7,62 +9,43 @@ use Rattle.orders.proofs.Setting.{set-refused, set-accepted}
 use borrow.Author.Needs.{needs}
 use Rattle.orders.proofs.set.Statement.{statement}
 use Rattle.orders.proofs.set.Tie as tie
-use Rattle.orders.proofs.set.Reads as reads
-use Rattle.orders.proofs.set.Lts as lts
-use Rattle.answers.proofs.accept.Reads as accept-reads
-use Rattle.control.proofs.control_bits.Reads as control-bits-reads
-use Rattle.counts.proofs.entries.Reads as entries-reads
-use Rattle.counts.proofs.switches.Reads as switches-reads
 
--- src/lib.rt:73:9
 switches-requires : tie.Need-switches-requires
 switches-requires c κs = search needs
 
--- src/lib.rt:74:17
 entries-requires : tie.Need-entries-requires
 entries-requires c κs = search needs
 
--- src/lib.rt:74:13
 mul-e : tie.Need-mul-e
 mul-e c = search needs
 
--- src/lib.rt:76:47
 slice-relend-prefix-control-bits : tie.Need-slice-relend-prefix-control-bits
 slice-relend-prefix-control-bits c = search needs
 
--- src/lib.rt:76:47
 slice-aggregate-control-bits : tie.Need-slice-aggregate-control-bits
 slice-aggregate-control-bits c = sym (length-take-le _ (c .before .before .before .before .before .args .bits .now) (omega (arith, c .before .before .switches .ensures .1, c .before .before .before .before .before .pre)))
 
--- src/lib.rt:76:63
 array-borrow-prefix-log : tie.Need-array-borrow-prefix-log
 array-borrow-prefix-log c = search needs
 
--- src/lib.rt:76:63
 slice-aggregate-control-bits-2 : tie.Need-slice-aggregate-control-bits-2
 slice-aggregate-control-bits-2 c = sym (length-take-le _ (replicate 49143 0) (omega (arith, c .before .before .entries .ensures .1)))
 
--- src/lib.rt:76:9
 control-bits-requires : tie.Need-control-bits-requires
 control-bits-requires c κs = search needs
 
--- src/lib.rt:78:9
 same-length : tie.Need-same-length
 same-length c = search needs
 
--- src/lib.rt:78:9
 returns : tie.Need-returns
 returns c = set-refused _ (c .before .before .before .before .before .before .before .before .before .before .before .before .args .bits .now) (take (3 * c .before .before .before .before .before .before .before .before .entries .result) (replicate 49143 0)) (c .before .before .before .before .before .before .before .before .before .before .before .before .pre .0) (c .before .before .before .before .before .before .before .before .before .switches .ensures .0) (omega (arith, c .before .before .before .before .before .before .before .before .before .switches .ensures .1, c .before .before .before .before .before .before .before .before .before .before .before .before .pre)) (omega (arith, c .before .before .before .before .before .before .before .before .entries .ensures, length-take-le (3 * c .before .before .before .before .before .before .before .before .entries .result) (replicate {A = ℕ} 49143 0) (omega (arith, c .before .before .before .before .before .before .before .before .entries .ensures .1)))) (c .before .before .before .before .before .control-bits .ensures) (c .if1 .taken)
 
--- src/lib.rt:80:5
 accept-requires : tie.Need-accept-requires
 accept-requires c κs = search needs
 
--- src/lib.rt:68:1
 same-length-2 : tie.Need-same-length-2
 same-length-2 c = search needs
 
--- src/lib.rt:68:1
 returns-2 : tie.Need-returns-2
 returns-2 c = set-accepted _ (c .before .before .before .before .before .before .before .before .before .before .before .before .before .args .bits .now) (take (3 * c .before .before .before .before .before .before .before .before .before .entries .result) (replicate 49143 0)) (c .before .before .before .before .before .before .before .before .before .before .before .before .before .pre .0) (c .before .before .before .before .before .before .before .before .before .before .switches .ensures .0) (omega (arith, c .before .before .before .before .before .before .before .before .before .before .switches .ensures .1, c .before .before .before .before .before .before .before .before .before .before .before .before .before .pre)) (omega (arith, c .before .before .before .before .before .before .before .before .before .entries .ensures, length-take-le (3 * c .before .before .before .before .before .before .before .before .before .entries .result) (replicate {A = ℕ} 49143 0) (omega (arith, c .before .before .before .before .before .before .before .before .before .entries .ensures .1)))) (c .before .before .before .before .before .before .control-bits .ensures) (c .before .if1 .left) (c .accept .ensures)
 

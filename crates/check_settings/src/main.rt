@@ -1,0 +1,186 @@
+// Runs `settings_text` on stored inputs: each refusal, small orders, and 1,024 places.
+ghost use mathlib.Core.Path.{_≡_};
+ghost use Prim.Native.Nat.{_+_, _≤_, _<_};
+ghost use lib.ListN.{length};
+use libc::STDOUT_FILENO;
+
+// The text of an input.
+fn show(input: &[u8]) {
+    let mut text = [0u8; 9252];
+    let end = report::settings_text(input, &mut text);
+    io::write_all(STDOUT_FILENO, &text[..end]);
+}
+
+// A number in one or two bytes at a place: the place after it.
+fn put(input: &mut [u8], at: usize, v: usize) -> usize
+    requires { ⌜ (at + 2 ≤ length (now input)) × (v < 16384) ⌝ }
+    ensures { λ r. ⌜ (at < r) × (r ≤ at + 2) ⌝ }
+{
+    if v < 128 {
+        input[at] = v as u8;
+        return at + 1;
+    }
+    input[at] = (v % 128 + 128) as u8;
+    input[at + 1] = (v / 128) as u8;
+    at + 2
+}
+
+// The count 1,024 and its entries: v - 1 for v = b, and then each time a more, mod 1,025. Where a = b has no divisor in common
+// with 1,025 they are a permutation. The answer is its length.
+fn large(input: &mut [u8], a: usize, b: usize) -> usize
+    requires { ⌜ (2051 ≤ length (now input)) × (a ≤ 1024) × (b ≤ 1024) ⌝ }
+    ensures { λ r. ⌜ (1 ≤ r) × (r ≤ 2050) ⌝ }
+{
+    let mut at = put(input, 0, 1024);
+    let mut v = b;
+    let mut i = 0usize;
+    while i < 1024 {
+        at = put(input, at, (v + 1024) % 1025);
+        v = (v + a) % 1025;
+        i += 1;
+    }
+    at
+}
+
+// The text of the first n bytes.
+fn show_front(input: &[u8], n: usize) {
+    if n <= input.len() {
+        show(&input[..n]);
+    }
+}
+
+// 1,024 places: an order, a byte more and a byte less; entries that come again; the longest input, of entries in two bytes,
+// and a byte more.
+fn show_large() {
+    let mut input = [0u8; 2051];
+    let end = large(&mut input, 389, 389);
+    show_front(&input, end);
+    show_front(&input, end + 1);
+    show_front(&input, end - 1);
+    let again = large(&mut input, 41, 41);
+    show_front(&input, again);
+    let longest = large(&mut input, 0, 1024);
+    show_front(&input, longest);
+    show_front(&input, longest + 1);
+}
+
+// Each input behind the number of its bytes.
+fn show_each(inputs: &[u8]) {
+    let mut at = 0;
+    while at < inputs.len() {
+        let from = at + 1;
+        let to = from + wide(inputs[at]);
+        if inputs.len() < to {
+            return;
+        }
+        show(&inputs[from..to]);
+        at = to;
+    }
+}
+
+fn wide(x: u8) -> usize
+    ensures { λ r. ⌜ (r ≡ x) × (r < 256) ⌝ }
+{
+    x as usize
+}
+
+// Nothing; a second byte missing, needless, with its top bit set; 1,025 and 16,383 places; an entry missing, cut, longer
+// than needed; a surplus byte, also where the entries are bad; an entry twice, one of two bytes, one too large.
+const REFUSED: [u8; 50] = [
+    0,
+    1,
+    0x80,
+    2,
+    0x80,
+    0x00,
+    2,
+    0x80,
+    0x80,
+    2,
+    0x81,
+    0x08,
+    2,
+    0xff,
+    0x7f,
+    2,
+    2,
+    0,
+    3,
+    2,
+    0,
+    0x81,
+    4,
+    2,
+    0,
+    0x80,
+    0x00,
+    2,
+    0,
+    0,
+    4,
+    2,
+    0,
+    0,
+    7,
+    3,
+    2,
+    0,
+    0,
+    5,
+    3,
+    0,
+    0x81,
+    0x01,
+    2,
+    4,
+    3,
+    0,
+    1,
+    3,
+];
+
+// 0, 1, 2 (twice), 3 and 5 places, and case g.
+const SMALL: [u8; 36] = [
+    1,
+    0,
+    2,
+    1,
+    0,
+    3,
+    2,
+    0,
+    1,
+    3,
+    2,
+    1,
+    0,
+    4,
+    3,
+    1,
+    2,
+    0,
+    6,
+    5,
+    0,
+    3,
+    2,
+    1,
+    4,
+    10,
+    9,
+    6,
+    2,
+    3,
+    7,
+    5,
+    1,
+    8,
+    0,
+    4,
+];
+
+fn main() {
+    show_each(&REFUSED);
+    show_each(&SMALL);
+    show_large();
+}
