@@ -84,103 +84,19 @@ fn wide(x: u8) -> usize
     x as usize
 }
 
-// Nothing; a second byte missing, needless, with its top bit set; 1,025 and 16,383 places; an entry missing, cut, longer
-// than needed; a surplus byte, also where the entries are bad; an entry twice, one of two bytes, one too large.
-const REFUSED: [u8; 50] = [
-    0,
-    1,
-    0x80,
-    2,
-    0x80,
-    0x00,
-    2,
-    0x80,
-    0x80,
-    2,
-    0x81,
-    0x08,
-    2,
-    0xff,
-    0x7f,
-    2,
-    2,
-    0,
-    3,
-    2,
-    0,
-    0x81,
-    4,
-    2,
-    0,
-    0x80,
-    0x00,
-    2,
-    0,
-    0,
-    4,
-    2,
-    0,
-    0,
-    7,
-    3,
-    2,
-    0,
-    0,
-    5,
-    3,
-    0,
-    0x81,
-    0x01,
-    2,
-    4,
-    3,
-    0,
-    1,
-    3,
-];
-
-// 0, 1, 2 (twice), 3 and 5 places, and case g.
-const SMALL: [u8; 36] = [
-    1,
-    0,
-    2,
-    1,
-    0,
-    3,
-    2,
-    0,
-    1,
-    3,
-    2,
-    1,
-    0,
-    4,
-    3,
-    1,
-    2,
-    0,
-    6,
-    5,
-    0,
-    3,
-    2,
-    1,
-    4,
-    10,
-    9,
-    6,
-    2,
-    3,
-    7,
-    5,
-    1,
-    8,
-    0,
-    4,
-];
-
 fn main() {
-    show_each(&REFUSED);
-    show_each(&SMALL);
+    // No byte; a second byte missing, needless, with its top bit set; 1,025 and 16,383 places.
+    show_each(b"\x00\x01\x80\x02\x80\x00\x02\x80\x80\x02\x81\x08\x02\xff\x7f");
+    // An entry missing, cut, longer than needed.
+    show_each(b"\x02\x02\x00\x03\x02\x00\x81\x04\x02\x00\x80\x00");
+    // A surplus byte, also where the entries are bad.
+    show_each(b"\x02\x00\x00\x04\x02\x00\x00\x07");
+    // An entry twice, one of two bytes that is too large, one of one byte.
+    show_each(b"\x03\x02\x00\x00\x05\x03\x00\x81\x01\x02\x04\x03\x00\x01\x03");
+    // 0, 1, 2 (twice), 3 and 5 places, and case g.
+    show_each(
+        b"\x01\x00\x02\x01\x00\x03\x02\x00\x01\x03\x02\x01\x00\x04\x03\x01\x02\x00\x06\x05\x00\x03\x02\x01\x04",
+    );
+    show_each(b"\x0a\x09\x06\x02\x03\x07\x05\x01\x08\x00\x04");
     show_large();
 }

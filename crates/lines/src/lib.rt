@@ -75,8 +75,8 @@ pub fn put_setting(out: &mut [u8], at: usize, bits: &[u8]) -> usize
     ensures { λ r. ⌜ Put (now (out .entry)) at (line "setting " (bitsText (now (bits .entry)))) r (now (out .exit)) ⌝ }
 {
     let a = put_text(out, at, b"setting ");
-    let b = put_bits(out, a, bits);
-    put_text(out, b, b"\n")
+    let end = put_bits(out, a, bits);
+    put_text(out, end, b"\n")
 }
 
 // The line of a refusal.

@@ -46,7 +46,7 @@ text-fits input before {after} {r} e =
 
 -- ---- the text
 
-text-of : (input : List ℕ) {v : Verdict} → firstNo (orderQuestions input) ≡ v → settingsText input ≡ textOf v input
+pub text-of : (input : List ℕ) {v : Verdict} → firstNo (orderQuestions input) ≡ v → settingsText input ≡ textOf v input
 unfolding settingsText
 text-of input e = ap (λ v. textOf v input) e
 
