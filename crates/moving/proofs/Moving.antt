@@ -46,7 +46,7 @@ module _ (sheet buffer : List ℕ) {read : Answer} {bits : List ℕ} (e : outcom
     pub place : ℕ
     pub asked : verdict ≡ noAt question place
 
-  read-stopped : (read .number ≡ 0 → ⊥) → Stopped
+  pub read-stopped : (read .number ≡ 0 → ⊥) → Stopped
   unfolding readSheet
   read-stopped h = go verdict refl
     where

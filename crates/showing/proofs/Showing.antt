@@ -1,0 +1,3 @@
+-- The whole text, and the call.
+-- Assumes nothing.
+use mathlib.Core.Path.{_≡_}
