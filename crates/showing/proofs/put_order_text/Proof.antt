@@ -25,7 +25,9 @@ same-length : tie.Need-same-length Inv-loop μ-loop
 same-length c = search needs
 
 returns : tie.Need-returns Inv-loop μ-loop
-returns c = rw (no-order (c .before .before .before .before .before .before .before .before .args .order .now) (c .before .before .before .before .before .if1 .taken)) (c .before .before .put-text .ensures)
+returns c =
+    let s = c .before .before .before .before .before .before .before .before in
+    (rw (no-order (s .args .order .now) (c .before .before .before .before .before .if1 .taken)) (c .before .before .put-text .ensures), omega (arith, c .before .before .put-text .ensures .place))
 
 loop-holds : tie.Need-loop-holds Inv-loop μ-loop
 loop-holds c = spacing-starts _ _ _
@@ -52,7 +54,9 @@ same-length-2 : tie.Need-same-length-2 Inv-loop μ-loop
 same-length-2 c = c .before .loop .inv .same
 
 returns-2 : tie.Need-returns-2 Inv-loop μ-loop
-returns-2 c = let s = c .before .before .before .before .before in spacing-ends _ _ _ (s .pre) (c .before .loop .inv) (c .before .before .if1 .left) (c .loop-test .left)
+returns-2 c =
+    let s = c .before .before .before .before .before in
+    (spacing-ends _ _ _ (s .pre) (c .before .loop .inv) (c .before .before .if1 .left) (c .loop-test .left), omega (arith, c .before .loop .inv .room, c .before .loop .inv .within))
 
 pub put-order-text-spec : {M : Type 1} → statement M
 put-order-text-spec =

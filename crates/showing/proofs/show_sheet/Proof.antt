@@ -1,48 +1,41 @@
+-- `showing::show_sheet` meets its contract.
+-- Assumes nothing.
+use mathlib.Core.Path.{sym}
+use mathlib.Core.List.{[]}
+use native.Mathlib.Omega.{arith}
+use lib.Seq.{length-take-le}
+use Rattle.moving.proofs.Moving.{read-few}
+use Rattle.showing.proofs.Showing.{show-refused, read-count, read-bits, show-done}
 use borrow.Author.Needs.{needs}
 use Rattle.showing.proofs.show_sheet.Statement.{statement}
 use Rattle.showing.proofs.show_sheet.Tie as tie
-use Rattle.showing.proofs.show_sheet.Reads as reads
-use Rattle.showing.proofs.show_sheet.Lts as lts
-use Rattle.answers.proofs.accept.Reads as accept-reads
-use Rattle.codec.proofs.read_sheet.Reads as read-sheet-reads
-use Rattle.counts.proofs.switches.Reads as switches-reads
-use Rattle.showing.proofs.put_setting.Reads as put-setting-reads
 
--- src/lib.rt:21:41
 slice-aggregate-read-sheet : tie.Need-slice-aggregate-read-sheet
 slice-aggregate-read-sheet c = search needs
 
--- src/lib.rt:21:9
 read-sheet-requires : tie.Need-read-sheet-requires
 read-sheet-requires c κs = search needs
 
--- src/lib.rt:23:9
 returns : tie.Need-returns
-returns c = ?
+returns c = show-refused _ _ _ (search needs) (c .before .before .before .read-sheet .ensures) (c .if1 .taken)
 
--- src/lib.rt:26:9
 switches-requires : tie.Need-switches-requires
-switches-requires c κs = ?
+switches-requires c κs = read-few _ _ (c .before .before .before .read-sheet .ensures) (c .if1 .left)
 
--- src/lib.rt:27:41
 array-share-prefix-bits : tie.Need-array-share-prefix-bits
 array-share-prefix-bits c = search needs
 
--- src/lib.rt:27:41
 slice-aggregate-put-setting : tie.Need-slice-aggregate-put-setting
-slice-aggregate-put-setting c = ?
+slice-aggregate-put-setting c = sym (length-take-le _ _ (omega (arith, c .before .before .switches .ensures .1)))
 
--- src/lib.rt:27:21
 put-setting-requires : tie.Need-put-setting-requires
-put-setting-requires c κs = ?
+put-setting-requires c κs = let i = c .before .before .before in (read-few _ _ (i .before .before .before .read-sheet .ensures) (i .if1 .left), omega (arith, c .before .before .switches .ensures), read-count _ _ [] (search needs) (i .before .before .before .read-sheet .ensures) (i .if1 .left) (c .before .before .switches .ensures .0), read-bits _ _ [] (search needs) (i .before .before .before .read-sheet .ensures) (i .if1 .left) (c .before .before .switches .ensures .0), omega arith)
 
--- src/lib.rt:27:5
 accept-requires : tie.Need-accept-requires
 accept-requires c κs = search needs
 
--- src/lib.rt:17:1
 returns-2 : tie.Need-returns-2
-returns-2 c = ?
+returns-2 c = let i = c .before .before .before .before .before in show-done (i .before .before .before .before .before .before .args .sheet .now) _ _ (search needs) (i .before .before .before .read-sheet .ensures) (i .if1 .left) (c .before .before .before .before .switches .ensures .0) (c .before .put-setting .ensures) (c .accept .ensures)
 
 pub show-sheet-spec : {M : Type 1} → statement M
 show-sheet-spec =
