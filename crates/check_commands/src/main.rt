@@ -28,9 +28,9 @@ fn move_blocks(
 }
 
 fn with_sheet(t: Tally, n: usize, width: usize, seed: u32, order: &[u8], sheet: &[u8]) -> Tally {
-    let mut blocks = [0u8; 262144];
-    let mut home = [0u8; 262144];
-    let mut scattered = [0u8; 262144];
+    let mut blocks = plain::blocks();
+    let mut home = plain::blocks();
+    let mut scattered = plain::blocks();
     plain::fill(&mut blocks, seed);
     plain::fill(&mut home, seed);
     let bytes = plain::times(n, width);
@@ -124,7 +124,7 @@ fn with_words(n: usize, width: usize, seed: u32, words: &[u8]) -> Tally {
 }
 
 fn job(n: usize, width: usize, seed: u32) -> Tally {
-    let mut words = [0u8; 4096];
+    let mut words = io::buffer();
     plain::fill(&mut words, seed);
     let most = plain::within(drawing::bytes_for(n), &words);
     with_words(n, width, seed, &words[..most])
@@ -162,7 +162,7 @@ fn order_kept(bytes: &[u8; 2050]) -> bool {
 }
 
 fn bad_sheet(before: Tally, sheet: &[u8], number: usize, place: usize) -> Tally {
-    let mut text = [7u8; 16384];
+    let mut text = plain::text();
     let shown = showing::show_sheet(sheet, &mut text);
     let t = tally::tallied(
         tally::refused(before, shown, number, place),

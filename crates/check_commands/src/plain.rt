@@ -1,7 +1,21 @@
 // The order's bytes read plainly, and blocks scattered by it.
+ghost use mathlib.Core.Path.{_≡_};
 ghost use Prim.Native.Nat.{_≤_, _<_};
 ghost use lib.ListN.{length};
 ghost use Rattle.io.specs.Counts.{Counts};
+
+// Large arrays, of which a caller's proof need know the length alone.
+pub fn blocks() -> [u8; 262144]
+    ensures { λ r. ⌜ 262144 ≡ length r ⌝ }
+{
+    [0; 262144]
+}
+
+pub fn text() -> [u8; 16384]
+    ensures { λ r. ⌜ 16384 ≡ length r ⌝ }
+{
+    [7; 16384]
+}
 
 fn add(a: usize, b: usize) -> usize {
     std::num::wrapping_add_usize(a, b)

@@ -2,6 +2,7 @@
 // what is read or written; what is chosen from it can be.
 ghost use mathlib.Core.Path.{_≡_};
 ghost use Prim.Native.Nat.{_≤_};
+ghost use lib.ListN.{length};
 ghost use Rattle.answers.specs.declared.Answer.{Answer};
 ghost use Rattle.io.specs.Counts.{Counts};
 ghost use Rattle.codec.specs.Inner.{Put};
@@ -34,6 +35,14 @@ fn read_file(fd: i32, buf: &mut [u8]) -> usize
     let n = io::read_full(fd, buf);
     libc::close(fd);
     n
+}
+
+// Room for the most blocks, and a byte more, so that a surplus shows. The `ensures` gives only the length, which lending the
+// array as a slice needs.
+pub fn blocks_buffer() -> [u8; 262145]
+    ensures { λ r. ⌜ 262145 ≡ length r ⌝ }
+{
+    [0; 262145]
 }
 
 // ---- what is written

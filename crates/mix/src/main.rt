@@ -1,5 +1,5 @@
 // `mix SHEET WIDTH`: moves the blocks on standard input, each of WIDTH bytes, forward by the sheet in the file SHEET (01: mix).
-// A byte more than the longest sheet, and than the most blocks, is read, so that a surplus shows.
+// A byte more than the longest sheet is read, so that a surplus shows.
 use libc::STDIN_FILENO;
 
 fn mix(sheet: &[u8], width: usize, blocks: &mut [u8]) {
@@ -11,7 +11,7 @@ fn main() {
     let mut sheet = [0u8; 1322];
     let s = console::read_named(1, &mut sheet);
     let width = console::number_argument(2);
-    let mut blocks = [0u8; 262145];
+    let mut blocks = console::blocks_buffer();
     let b = io::read_full(STDIN_FILENO, &mut blocks);
     mix(&sheet[..s], width, &mut blocks[..b]);
 }
