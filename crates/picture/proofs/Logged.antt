@@ -35,7 +35,7 @@ use Rattle.picture.specs.Inner.{markIn, columnsIn, rowIn, rowsIn}
 columns-length : (es : List Entry) (bits : List ℕ) (place : ℕ) → length (columns es bits place) ≡ length es
 unfolding columns
 columns-length [] bits place = refl
-columns-length (e ∷ es) bits place = ap suc (columns-length es (drop 1 bits) place)
+columns-length (e ∷ es) bits place = ap suc (columns-length es _ place)
 
 columns-at : (es : List Entry) (bits : List ℕ) (place e : ℕ) → e < length es → getD (columns es bits place) e 0 ≡ markIn (words es) bits place e
 unfolding columns words
