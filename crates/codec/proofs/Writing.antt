@@ -112,7 +112,7 @@ fourteens-more (suc j) bits =
     ap (λ vs. bitsNumber (take 14 bits) ∷ vs)
     (fourteens-more j (drop 14 bits) ∙ ap (λ bs. fourteens j (drop 14 bits) ++ (bitsNumber (take 14 bs) ∷ [])) d)
 
-bytes-more : (vs : List ℕ) (v : ℕ) → numbersBytes (vs ++ (v ∷ [])) ≡ numbersBytes vs ++ numberBytes v
+pub bytes-more : (vs : List ℕ) (v : ℕ) → numbersBytes (vs ++ (v ∷ [])) ≡ numbersBytes vs ++ numberBytes v
 unfolding numbersBytes
 bytes-more [] v = append-nil (numberBytes v)
 bytes-more (x ∷ vs) v = rw (bytes-more vs v, append-assoc)
@@ -210,7 +210,7 @@ sheet-put {a} {r} {b} n bits h P Q R =
     put-then (omega (arith, one-byte)) P (put-then room Q R)
 
 -- no number takes more than two bytes, and the form number takes one
-bytes-most : (vs : List ℕ) → length (numbersBytes vs) ≤ 2 * length vs
+pub bytes-most : (vs : List ℕ) → length (numbersBytes vs) ≤ 2 * length vs
 unfolding numbersBytes
 bytes-most [] = omega arith
 bytes-most (v ∷ vs) = omega (arith, length-append (numberBytes v) (numbersBytes vs), bytes-few v, bytes-most vs)

@@ -60,8 +60,9 @@ fn make_sheet(n: usize, bits: &[u8], buf: &mut [u8]) -> usize
     put_fourteens(bits, k, buf, b)
 }
 
-// A number's bytes, at a place of buf. The answer is the place after them.
-fn put_number(buf: &mut [u8], at: usize, v: usize) -> usize
+// A number's bytes, at a place of buf. The answer is the place after them. Public for the crate that writes an order in the
+// same numbers, and so with a `requires` of its own.
+pub fn put_number(buf: &mut [u8], at: usize, v: usize) -> usize
     requires { ⌜ (v < 16384) × (at + 2 ≤ length (now buf)) ⌝ }
     ensures { λ r. ⌜ Put (now (buf .entry)) at (numberBytes v) r (now (buf .exit)) ⌝ }
 {

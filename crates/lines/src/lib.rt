@@ -36,7 +36,8 @@ pub fn put_decimal(out: &mut [u8], at: usize, v: usize) -> usize
     end + 1
 }
 
-fn bit_character(b: u8) -> u8
+// A bit as a digit.
+pub fn bit_character(b: u8) -> u8
     ensures { λ r. ⌜ r ≡ character b ⌝ }
 {
     if b == 1 { b'1' } else { b'0' }

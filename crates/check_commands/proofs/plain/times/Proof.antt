@@ -1,0 +1,25 @@
+-- `check_commands::plain::times` meets its contract.
+-- Assumes nothing.
+use borrow.Author.Needs.{needs}
+use Prim.Native.Nat.{_*_, _≤_}
+use native.Mathlib.Nat.{mul-le-mul}
+use native.Mathlib.Omega.{arith}
+use Rattle.check_commands.proofs.plain.times.Statement.{statement}
+use Rattle.check_commands.proofs.plain.times.Tie as tie
+
+returns : tie.Need-returns
+returns c = search needs
+
+returns-2 : tie.Need-returns-2
+returns-2 c = search needs
+
+mul-result : tie.Need-mul-result
+mul-result c =
+    let q : c .before .before .args .n * c .before .before .args .width ≤ 1024 * 256 = mul-le-mul (c .before .if1 .left) (c .if2 .left) in
+    omega arith
+
+returns-3 : tie.Need-returns-3
+returns-3 c = mul-le-mul (c .before .if1 .left) (c .if2 .left)
+
+pub times-spec : {M : Type 1} → statement M
+times-spec = tie.close (tie.spec returns returns-2 mul-result returns-3)

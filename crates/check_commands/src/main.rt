@@ -1,0 +1,281 @@
+// The whole job through the calls of the programs: an order from words, its sheet, blocks mixed and put back. The mixed blocks
+// are compared with a direct scatter by the order, and those put back with the blocks at the start. Then each refusal.
+mod plain;
+mod tally;
+
+use answers::Answer;
+use tally::Tally;
+
+// ---- the job
+
+fn move_blocks(
+    before: Tally,
+    order: &[u8],
+    sheet: &[u8],
+    width: usize,
+    blocks: &mut [u8],
+    home: &[u8],
+    scattered: &mut [u8],
+) -> Tally {
+    plain::scatter(order, width, home, scattered);
+    let mixed = moving::mix(sheet, width, blocks);
+    let t = tally::tallied(
+        tally::accepted(before, mixed),
+        check::same(blocks, scattered),
+    );
+    let back = moving::unmix(sheet, width, blocks);
+    tally::tallied(tally::accepted(t, back), check::same(blocks, home))
+}
+
+fn with_sheet(t: Tally, n: usize, width: usize, seed: u32, order: &[u8], sheet: &[u8]) -> Tally {
+    let mut blocks = plain::blocks();
+    let mut home = plain::blocks();
+    let mut scattered = plain::blocks();
+    plain::fill(&mut blocks, seed);
+    plain::fill(&mut home, seed);
+    let bytes = plain::times(n, width);
+    let a = plain::within(bytes, &home);
+    let b = plain::within(bytes, &blocks);
+    let c = plain::within(bytes, &scattered);
+    move_blocks(
+        t,
+        order,
+        sheet,
+        width,
+        &mut blocks[..b],
+        &home[..a],
+        &mut scattered[..c],
+    )
+}
+
+fn with_sheet_part(
+    t: Tally,
+    n: usize,
+    width: usize,
+    seed: u32,
+    order: &[u8],
+    sheet: &[u8],
+    count: usize,
+) -> Tally {
+    let end = plain::within(count, sheet);
+    with_sheet(t, n, width, seed, order, &sheet[..end])
+}
+
+fn with_made(
+    t: Tally,
+    n: usize,
+    width: usize,
+    seed: u32,
+    order: &[u8],
+    sheet: &[u8; 1321],
+    count: usize,
+) -> Tally {
+    with_sheet_part(t, n, width, seed, order, sheet, count)
+}
+
+fn with_order(t: Tally, n: usize, width: usize, seed: u32, order: &[u8]) -> Tally {
+    let mut sheet = [0u8; 1321];
+    let made = sheets::order_sheet(order, &mut sheet);
+    with_made(
+        tally::accepted(t, made),
+        n,
+        width,
+        seed,
+        order,
+        &sheet,
+        made.count,
+    )
+}
+
+fn with_order_part(
+    t: Tally,
+    n: usize,
+    width: usize,
+    seed: u32,
+    order: &[u8],
+    count: usize,
+) -> Tally {
+    let end = plain::within(count, order);
+    with_order(t, n, width, seed, &order[..end])
+}
+
+fn with_drawn(
+    t: Tally,
+    n: usize,
+    width: usize,
+    seed: u32,
+    order: &[u8; 2050],
+    count: usize,
+) -> Tally {
+    with_order_part(t, n, width, seed, order, count)
+}
+
+fn with_words(n: usize, width: usize, seed: u32, words: &[u8]) -> Tally {
+    let mut order = [0u8; 2050];
+    let drawn = drawing::draw_order(n, words, &mut order);
+    with_drawn(
+        tally::accepted(tally::none(), drawn),
+        n,
+        width,
+        seed,
+        &order,
+        drawn.count,
+    )
+}
+
+fn job(n: usize, width: usize, seed: u32) -> Tally {
+    let mut words = io::buffer();
+    plain::fill(&mut words, seed);
+    let most = plain::within(drawing::bytes_for(n), &words);
+    with_words(n, width, seed, &words[..most])
+}
+
+// ---- refused calls: the answer, and the buffer as it was
+
+fn unmoved(
+    before: Tally,
+    sheet: &[u8],
+    width: usize,
+    blocks: &mut [u8],
+    number: usize,
+    place: usize,
+) -> Tally {
+    let mixed = moving::mix(sheet, width, blocks);
+    let t = tally::refused(before, mixed, number, place);
+    let back = moving::unmix(sheet, width, blocks);
+    tally::tallied(
+        tally::refused(t, back, number, place),
+        plain::sevens(blocks),
+    )
+}
+
+fn text_kept(bytes: &[u8; 16384]) -> bool {
+    plain::sevens(bytes)
+}
+
+fn sheet_kept(bytes: &[u8; 1321]) -> bool {
+    plain::sevens(bytes)
+}
+
+fn order_kept(bytes: &[u8; 2050]) -> bool {
+    plain::sevens(bytes)
+}
+
+fn bad_sheet(before: Tally, sheet: &[u8], number: usize, place: usize) -> Tally {
+    let mut text = plain::text();
+    let shown = showing::show_sheet(sheet, &mut text);
+    let t = tally::tallied(
+        tally::refused(before, shown, number, place),
+        text_kept(&text),
+    );
+    let mut blocks = [7u8; 9];
+    unmoved(t, sheet, 1, &mut blocks, number, place)
+}
+
+fn bad_sheets() -> Tally {
+    let a = bad_sheet(tally::none(), b"", 8, 0);
+    let b = bad_sheet(a, b"\x80", 8, 1);
+    let c = bad_sheet(b, b"\x80\x00", 9, 0);
+    let d = bad_sheet(c, b"\x02\x09", 10, 0);
+    let e = bad_sheet(d, b"\x01", 8, 1);
+    let f = bad_sheet(e, b"\x01\x81\x08", 1, 0);
+    let g = bad_sheet(f, b"\x01\x09\x88\x2f", 8, 4);
+    let h = bad_sheet(g, b"\x01\x03\x86\x00", 9, 2);
+    let i = bad_sheet(h, b"\x01\x03\x0e", 11, 2);
+    bad_sheet(i, b"\x01\x00\x00", 12, 2)
+}
+
+fn bad_blocks() -> Tally {
+    let sheet = b"\x01\x09\x88\x2f\x1d";
+    let mut eight = [7u8; 8];
+    let mut nine = [7u8; 9];
+    let mut ten = [7u8; 10];
+    let a = unmoved(tally::none(), sheet, 0, &mut nine, 2, 0);
+    let b = unmoved(a, sheet, 257, &mut nine, 2, 0);
+    let c = unmoved(b, sheet, 10000, &mut nine, 2, 0);
+    let d = unmoved(c, sheet, 1, &mut eight, 3, 0);
+    unmoved(d, sheet, 1, &mut ten, 3, 0)
+}
+
+fn bad_order(t: Tally, order: &[u8], number: usize, place: usize) -> Tally {
+    let mut sheet = [7u8; 1321];
+    let made = sheets::order_sheet(order, &mut sheet);
+    tally::tallied(tally::refused(t, made, number, place), sheet_kept(&sheet))
+}
+
+fn bad_orders() -> Tally {
+    let a = bad_order(tally::none(), b"", 8, 0);
+    let b = bad_order(a, b"\x81\x08", 1, 0);
+    let c = bad_order(b, b"\x02\x00", 8, 2);
+    let d = bad_order(c, b"\x02\x00\x80\x00", 9, 2);
+    let e = bad_order(d, b"\x02\x00\x00\x07", 12, 3);
+    bad_order(e, b"\x02\x00\x00", 6, 1)
+}
+
+fn bad_draw(t: Tally, n: usize, words: &[u8], number: usize) -> Tally {
+    let mut order = [7u8; 2050];
+    let drawn = drawing::draw_order(n, words, &mut order);
+    tally::tallied(tally::refused(t, drawn, number, 0), order_kept(&order))
+}
+
+fn bad_draws() -> Tally {
+    let words = [1u8; 40];
+    let a = bad_draw(tally::none(), 1025, &words, 1);
+    let b = bad_draw(a, 10000, &words, 1);
+    let c = bad_draw(b, 11, &words, 16);
+    let d = bad_draw(c, 9, &words, 16);
+    bad_draw(d, 1, b"abc", 16)
+}
+
+// ---- arguments and the line of a refusal
+
+fn argument(t: Tally, text: &[u8], value: usize) -> Tally {
+    tally::tallied(t, arguments::decimal(text) == value)
+}
+
+fn check_arguments() -> Tally {
+    let a = argument(tally::none(), b"256", 256);
+    let b = argument(a, b"0009", 9);
+    let c = argument(b, b"9999", 9999);
+    let d = argument(c, b"", 10000);
+    let e = argument(d, b"00009", 10000);
+    let f = argument(e, b"1/", 10000);
+    let g = argument(f, b"1:", 10000);
+    argument(g, b"-1", 10000)
+}
+
+fn is_part(made: &[u8], n: usize, text: &[u8]) -> bool {
+    let end = plain::within(n, made);
+    check::same(&made[..end], text)
+}
+
+fn is_line(made: &[u8; 53], n: usize, text: &[u8]) -> bool {
+    is_part(made, n, text)
+}
+
+fn line(t: Tally, answer: Answer, text: &[u8]) -> Tally {
+    let mut made = [7u8; 53];
+    let n = console::error_text(answer, &mut made);
+    tally::tallied(t, is_line(&made, n, text))
+}
+
+fn check_lines() -> Tally {
+    let a = line(tally::none(), answers::refuse(3, 0), b"refused 3 at 0\n");
+    let b = line(a, answers::refuse(12, 1321), b"refused 12 at 1321\n");
+    let c = line(b, answers::accept(9), b"");
+    let d = tally::tallied(c, console::output_length(answers::accept(9), 5) == 5);
+    tally::tallied(d, console::output_length(answers::refuse(9, 1), 5) == 0)
+}
+
+fn main() {
+    tally::print(b"9 blocks of 1 byte", job(9, 1, 1));
+    tally::print(b"5 blocks of 6 bytes", job(5, 6, 2));
+    tally::print(b"no block", job(0, 3, 3));
+    tally::print(b"1,024 blocks of 256 bytes", job(1024, 256, 4));
+    tally::print(b"sheets refused", bad_sheets());
+    tally::print(b"blocks refused", bad_blocks());
+    tally::print(b"orders refused", bad_orders());
+    tally::print(b"draws refused", bad_draws());
+    tally::print(b"arguments", check_arguments());
+    tally::print(b"lines", check_lines());
+}

@@ -1,0 +1,2 @@
+pub mod Picture
+pub mod Inner

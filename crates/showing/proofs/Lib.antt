@@ -1,0 +1,2 @@
+pub mod Spacing
+pub mod Showing
