@@ -1,10 +1,18 @@
 // The whole job through the calls of the programs: an order from words, its sheet, blocks mixed and put back. The mixed blocks
 // are compared with a direct scatter by the order, and those put back with the blocks at the start. Then each refusal.
 mod plain;
-mod tally;
 
 use answers::Answer;
 use tally::Tally;
+
+// An answer that must be a success, and one that must be a refusal: its number, its place and the count 0.
+fn accepted(t: Tally, a: Answer) -> Tally {
+    tally::tallied(t, a.number == 0)
+}
+
+fn refused(t: Tally, a: Answer, number: usize, place: usize) -> Tally {
+    tally::tallied(t, tally::same_answer(a, answers::refuse(number, place)))
+}
 
 // ---- the job
 
@@ -20,11 +28,11 @@ fn move_blocks(
     plain::scatter(order, width, home, scattered);
     let mixed = moving::mix(sheet, width, blocks);
     let t = tally::tallied(
-        tally::accepted(before, mixed),
+        accepted(before, mixed),
         check::same(blocks, scattered),
     );
     let back = moving::unmix(sheet, width, blocks);
-    tally::tallied(tally::accepted(t, back), check::same(blocks, home))
+    tally::tallied(accepted(t, back), check::same(blocks, home))
 }
 
 fn with_sheet(t: Tally, n: usize, width: usize, seed: u32, order: &[u8], sheet: &[u8]) -> Tally {
@@ -33,7 +41,7 @@ fn with_sheet(t: Tally, n: usize, width: usize, seed: u32, order: &[u8], sheet: 
     let mut scattered = plain::blocks();
     plain::fill(&mut blocks, seed);
     plain::fill(&mut home, seed);
-    let bytes = plain::times(n, width);
+    let bytes = tally::times(n, width);
     let a = plain::within(bytes, &home);
     let b = plain::within(bytes, &blocks);
     let c = plain::within(bytes, &scattered);
@@ -77,7 +85,7 @@ fn with_order(t: Tally, n: usize, width: usize, seed: u32, order: &[u8]) -> Tall
     let mut sheet = [0u8; 1321];
     let made = sheets::order_sheet(order, &mut sheet);
     with_made(
-        tally::accepted(t, made),
+        accepted(t, made),
         n,
         width,
         seed,
@@ -114,7 +122,7 @@ fn with_words(n: usize, width: usize, seed: u32, words: &[u8]) -> Tally {
     let mut order = [0u8; 2050];
     let drawn = drawing::draw_order(n, words, &mut order);
     with_drawn(
-        tally::accepted(tally::none(), drawn),
+        accepted(tally::none(), drawn),
         n,
         width,
         seed,
@@ -141,10 +149,10 @@ fn unmoved(
     place: usize,
 ) -> Tally {
     let mixed = moving::mix(sheet, width, blocks);
-    let t = tally::refused(before, mixed, number, place);
+    let t = refused(before, mixed, number, place);
     let back = moving::unmix(sheet, width, blocks);
     tally::tallied(
-        tally::refused(t, back, number, place),
+        refused(t, back, number, place),
         plain::sevens(blocks),
     )
 }
@@ -165,7 +173,7 @@ fn bad_sheet(before: Tally, sheet: &[u8], number: usize, place: usize) -> Tally 
     let mut text = plain::text();
     let shown = showing::show_sheet(sheet, &mut text);
     let t = tally::tallied(
-        tally::refused(before, shown, number, place),
+        refused(before, shown, number, place),
         text_kept(&text),
     );
     let mut blocks = [7u8; 9];
@@ -200,7 +208,7 @@ fn bad_blocks() -> Tally {
 fn bad_order(t: Tally, order: &[u8], number: usize, place: usize) -> Tally {
     let mut sheet = [7u8; 1321];
     let made = sheets::order_sheet(order, &mut sheet);
-    tally::tallied(tally::refused(t, made, number, place), sheet_kept(&sheet))
+    tally::tallied(refused(t, made, number, place), sheet_kept(&sheet))
 }
 
 fn bad_orders() -> Tally {
@@ -215,7 +223,7 @@ fn bad_orders() -> Tally {
 fn bad_draw(t: Tally, n: usize, words: &[u8], number: usize) -> Tally {
     let mut order = [7u8; 2050];
     let drawn = drawing::draw_order(n, words, &mut order);
-    tally::tallied(tally::refused(t, drawn, number, 0), order_kept(&order))
+    tally::tallied(refused(t, drawn, number, 0), order_kept(&order))
 }
 
 fn bad_draws() -> Tally {

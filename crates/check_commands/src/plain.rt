@@ -38,19 +38,6 @@ pub fn within(n: usize, buf: &[u8]) -> usize
     if n < buf.len() { n } else { buf.len() }
 }
 
-// The bytes of n blocks, where n and the width are what a call accepts; else 0.
-pub fn times(n: usize, width: usize) -> usize
-    ensures { λ r. ⌜ r ≤ 262144 ⌝ }
-{
-    if 1024 < n {
-        return 0;
-    }
-    if 256 < width {
-        return 0;
-    }
-    n * width
-}
-
 fn random(x: u32) -> u32 {
     (x % 65537 * 75 + 74) % 65537
 }
@@ -106,8 +93,8 @@ fn after(order: &[u8], at: usize) -> usize
 
 // Block i of home becomes block v of out.
 fn copy(home: &[u8], i: usize, out: &mut [u8], v: usize, width: usize) {
-    let from = times(i, width);
-    let to = times(v, width);
+    let from = tally::times(i, width);
+    let to = tally::times(v, width);
     let mut j = 0;
     while j < width {
         put(out, add(to, j), get(home, add(from, j)));
