@@ -11,7 +11,8 @@ ghost use Rattle.picture.specs.Inner.{columnsIn, rowIn, rowsIn};
 // The picture, at a place of out; the answer is the place after it. Public for the crate that shows a sheet, which has read
 // the setting and knows how long the text gets. The switches are those that a mixing logs.
 pub fn put_picture(out: &mut [u8], at: usize, n: usize, bits: &[u8]) -> usize
-    requires { ⌜ (n ≤ 16) × (length (now bits) ≡ W n) × Bits (now bits) × (at + length (picture n (now bits)) ≤ length (now out)) ⌝ }
+    requires { ⌜ (n ≤ 16) × (length (now bits) ≡ W n) × Bits (now bits)
+        × (at + length (picture n (now bits)) ≤ length (now out)) ⌝ }
     ensures { λ r. ⌜ Put (now (out .entry)) at (picture n (now (bits .entry))) r (now (out .exit)) ⌝ }
 {
     let mut blocks = [0u8; 16];
@@ -21,7 +22,8 @@ pub fn put_picture(out: &mut [u8], at: usize, n: usize, bits: &[u8]) -> usize
 }
 
 fn put_rows(out: &mut [u8], at: usize, n: usize, bits: &[u8], log: &[u16]) -> usize
-    requires { ⌜ (n ≤ 100) × (3 * length (now bits) ≤ length (now log)) × (at + length (rowsIn (now log) (now bits) n) ≤ length (now out)) ⌝ }
+    requires { ⌜ (n ≤ 100) × (3 * length (now bits) ≤ length (now log))
+        × (at + length (rowsIn (now log) (now bits) n) ≤ length (now out)) ⌝ }
     ensures { λ r. ⌜ Put (now (out .entry)) at (rowsIn (now (log .entry)) (now (bits .entry)) n) r (now (out .exit)) ⌝ }
 {
     let mut end = at;
@@ -34,7 +36,8 @@ fn put_rows(out: &mut [u8], at: usize, n: usize, bits: &[u8], log: &[u16]) -> us
 }
 
 fn put_row(out: &mut [u8], at: usize, place: usize, bits: &[u8], log: &[u16]) -> usize
-    requires { ⌜ (place < 100) × (3 * length (now bits) ≤ length (now log)) × (at + length (rowIn (now log) (now bits) place) ≤ length (now out)) ⌝ }
+    requires { ⌜ (place < 100) × (3 * length (now bits) ≤ length (now log))
+        × (at + length (rowIn (now log) (now bits) place) ≤ length (now out)) ⌝ }
     ensures { λ r. ⌜ Put (now (out .entry)) at (rowIn (now (log .entry)) (now (bits .entry)) place) r (now (out .exit)) ⌝ }
 {
     let a = put_label(out, at, place);
@@ -62,7 +65,8 @@ fn tens(place: usize) -> u8
 }
 
 fn put_columns(out: &mut [u8], at: usize, place: usize, bits: &[u8], log: &[u16]) -> usize
-    requires { ⌜ (3 * length (now bits) ≤ length (now log)) × (at + length (columnsIn (now log) (now bits) place) ≤ length (now out)) ⌝ }
+    requires { ⌜ (3 * length (now bits) ≤ length (now log))
+        × (at + length (columnsIn (now log) (now bits) place) ≤ length (now out)) ⌝ }
     ensures { λ r. ⌜ Put (now (out .entry)) at (columnsIn (now (log .entry)) (now (bits .entry)) place) r (now (out .exit)) ⌝ }
 {
     let mut e = 0;

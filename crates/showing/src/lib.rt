@@ -39,7 +39,8 @@ fn put_setting(out: &mut [u8], n: usize, bits: &[u8]) -> usize
 // The order and the picture: 7,000 bytes are enough.
 fn put_rest(out: &mut [u8], at: usize, n: usize, bits: &[u8]) -> usize
     requires { ⌜ (n ≤ 1024) × (W n ≤ 9217) × (length (now bits) ≡ W n) × Bits (now bits) × (at + 7000 ≤ length (now out)) ⌝ }
-    ensures { λ r. ⌜ Put (now (out .entry)) at (line "order" (orderText (orderOf paper n (now (bits .entry)))) ++ pictured n (now (bits .entry))) r (now (out .exit)) ⌝ }
+    ensures { λ r. ⌜ Put (now (out .entry)) at (line "order" (orderText (orderOf paper n (now (bits .entry))))
+        ++ pictured n (now (bits .entry))) r (now (out .exit)) ⌝ }
 {
     let mut order = [0u16; 1024];
     carried::carried_order(n, bits, &mut order);
@@ -63,7 +64,8 @@ fn put_pictured(out: &mut [u8], at: usize, n: usize, bits: &[u8]) -> usize
 // The line of an order: an entry takes six bytes at most.
 fn put_order(out: &mut [u8], at: usize, order: &[u16]) -> usize
     requires { ⌜ at + 8 + 6 * length (now order) ≤ length (now out) ⌝ }
-    ensures { λ r. ⌜ Put (now (out .entry)) at (line "order" (orderText (now (order .entry)))) r (now (out .exit)) × (r ≤ at + 8 + 6 * length (now (order .entry))) ⌝ }
+    ensures { λ r. ⌜ Put (now (out .entry)) at (line "order" (orderText (now (order .entry)))) r (now (out .exit))
+        × (r ≤ at + 8 + 6 * length (now (order .entry))) ⌝ }
 {
     let a = lines::put_text(out, at, b"order");
     let b = put_order_text(out, a, order);
@@ -72,7 +74,8 @@ fn put_order(out: &mut [u8], at: usize, order: &[u16]) -> usize
 
 fn put_order_text(out: &mut [u8], at: usize, order: &[u16]) -> usize
     requires { ⌜ at + 2 + 6 * length (now order) ≤ length (now out) ⌝ }
-    ensures { λ r. ⌜ Put (now (out .entry)) at (orderText (now (order .entry))) r (now (out .exit)) × (r ≤ at + 2 + 6 * length (now (order .entry))) ⌝ }
+    ensures { λ r. ⌜ Put (now (out .entry)) at (orderText (now (order .entry))) r (now (out .exit))
+        × (r ≤ at + 2 + 6 * length (now (order .entry))) ⌝ }
 {
     if order.len() == 0 {
         return lines::put_text(out, at, b" -");

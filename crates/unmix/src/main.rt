@@ -1,4 +1,5 @@
-// `unmix SHEET WIDTH`: moves the blocks on standard input, each of WIDTH bytes, backward by the sheet in the file SHEET (01: return).
+// `unmix SHEET WIDTH`: moves the blocks on standard input, each of WIDTH bytes, backward by the sheet in the file SHEET (01:
+// return).
 // A byte more than the longest sheet is read, so that a surplus shows.
 use libc::STDIN_FILENO;
 
