@@ -27,10 +27,7 @@ fn move_blocks(
 ) -> Tally {
     plain::scatter(order, width, home, scattered);
     let mixed = moving::mix(sheet, width, blocks);
-    let t = tally::tallied(
-        accepted(before, mixed),
-        check::same(blocks, scattered),
-    );
+    let t = tally::tallied(accepted(before, mixed), check::same(blocks, scattered));
     let back = moving::unmix(sheet, width, blocks);
     tally::tallied(accepted(t, back), check::same(blocks, home))
 }
@@ -84,15 +81,7 @@ fn with_made(
 fn with_order(t: Tally, n: usize, width: usize, seed: u32, order: &[u8]) -> Tally {
     let mut sheet = [0u8; 1321];
     let made = sheets::order_sheet(order, &mut sheet);
-    with_made(
-        accepted(t, made),
-        n,
-        width,
-        seed,
-        order,
-        &sheet,
-        made.count,
-    )
+    with_made(accepted(t, made), n, width, seed, order, &sheet, made.count)
 }
 
 fn with_order_part(
@@ -151,10 +140,7 @@ fn unmoved(
     let mixed = moving::mix(sheet, width, blocks);
     let t = refused(before, mixed, number, place);
     let back = moving::unmix(sheet, width, blocks);
-    tally::tallied(
-        refused(t, back, number, place),
-        plain::sevens(blocks),
-    )
+    tally::tallied(refused(t, back, number, place), plain::sevens(blocks))
 }
 
 fn text_kept(bytes: &[u8; 16384]) -> bool {
@@ -172,10 +158,7 @@ fn order_kept(bytes: &[u8; 2050]) -> bool {
 fn bad_sheet(before: Tally, sheet: &[u8], number: usize, place: usize) -> Tally {
     let mut text = plain::text();
     let shown = showing::show_sheet(sheet, &mut text);
-    let t = tally::tallied(
-        refused(before, shown, number, place),
-        text_kept(&text),
-    );
+    let t = tally::tallied(refused(before, shown, number, place), text_kept(&text));
     let mut blocks = [7u8; 9];
     unmoved(t, sheet, 1, &mut blocks, number, place)
 }
