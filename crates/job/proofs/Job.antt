@@ -1,15 +1,14 @@
 -- THE JOB'S THEOREM: what draw writes, sheet takes; what sheet writes, mix and unmix take; and the blocks go where the order
 -- says, and back.
 -- Assumes nothing.
-use mathlib.Core.Path.{_≡_, refl, sym, ap, _∙_}
+use mathlib.Core.Path.{_≡_, ap, _∙_}
 use mathlib.Core.List.{List, []}
-use Prim.Native.Nat.{ℕ, _+_, _*_, _/_, _≤_, _<_}
+use Prim.Native.Nat.{ℕ, _*_, _/_, _≤_}
 use native.Mathlib.Omega.{arith}
 use borrow.Author.Tests.{le-leb, eq-eqb, eqb-true}
 use lib.Dec.{eqb}
 use lib.ListN.{length, take}
 use Rattle.answers.specs.Answers.{accepted}
-use Rattle.answers.specs.Questions.{allYes, firstNo}
 use Rattle.answers.specs.Buffers.{overlay}
 use Rattle.answers.specs.Outcomes.{Outcome, outcome}
 use Rattle.answers.proofs.Questions.{passed}
@@ -34,9 +33,9 @@ use Rattle.drawing.specs.Draw.{wordAt, wordsIn, orderBytes, drawQuestions, draw
 use Rattle.sheets.specs.Calls.{sheetFor, sheetCall}
 use Rattle.claims.specs.Carrying.{Demand2}
 use Rattle.claims.proofs.Carrying.{demand2}
-use Rattle.job.specs.Job.{written, Holds, Drawn, Moves, Made, Job}
+use Rattle.job.specs.Job.{written, Holds, Drawn, Made, Job}
 use Rattle.job.proofs.Orders.{order-holds}
-use Rattle.job.proofs.Moves.{switches-few, moves}
+use Rattle.job.proofs.Moves.{switches-few, moves, shows}
 
 -- ---- draw
 
@@ -54,10 +53,9 @@ module _ (n : ℕ) (bytes out : List ℕ) (small : n ≤ 1024) (filled : length 
   unfolding drawCall drawQuestions
   draw-is = rw (le-leb n 1024 small, eq-eqb (length (wordsIn bytes)) n word-count)
 
-  draws : Drawn n (drawCall n bytes out)
+  draws : Drawn n order (drawCall n bytes out)
   draws =
       record {
-        order = order;
         permutation = permutation;
         draw-accepted = ap (λ (o : Outcome). o .answer) draw-is;
         order-written = rw (draw-is, overlay-read out (orderBytes order)) (order-holds n order small permutation);
@@ -76,7 +74,8 @@ module _ (n : ℕ) (order input out : List ℕ) (H : Holds n order input) where
   held : IsPermutation n order
   held =
       let es = orderIn input in
-      let all = eqb-true (firstBadEntry es) (length es) (passed 6 (firstBadEntry es) (eqb (firstBadEntry es) (length es)) [] (both .second) .here) in
+      let bad = firstBadEntry es in
+      let all = eqb-true bad (length es) (passed 6 bad (eqb bad (length es)) [] (both .second) .here) in
       let long : length es ≡ n = numbers-length input (countIn input) (entriesAt input) ∙ H .places in
       rw (H .entries) at (rw long at (passes-permutation es all))
 
@@ -86,16 +85,21 @@ module _ (n : ℕ) (order input out : List ℕ) (H : Holds n order input) where
   setting-is : settingFor order ≡ D .house .setting
   setting-is = rw (held .whole) (D .house .only _ (setting-canonical paper-lawful n order held))
 
-  made-is : sheetFor input ≡ sheet n (D .house .setting)
-  made-is =
-      ap (λ m. sheet m (settingFor (orderIn input))) (H .places) ∙ ap (λ es. sheet n (settingFor es)) (H .entries) ∙ ap (sheet n) setting-is
+  abbrev made : List ℕ
+  made = sheet n (D .house .setting)
 
-  sheet-is : sheetCall input out ≡ outcome (accepted (length (sheet n (D .house .setting)))) (overlay out 0 (sheet n (D .house .setting)))
+  made-is : sheetFor input ≡ made
+  made-is =
+      ap (λ m. sheet m (settingFor (orderIn input))) (H .places)
+      ∙ ap (λ es. sheet n (settingFor es)) (H .entries)
+      ∙ ap (sheet n) setting-is
+
+  sheet-is : sheetCall input out ≡ outcome (accepted (length made)) (overlay out 0 made)
   unfolding sheetCall
   sheet-is = rw (H .asked, made-is)
 
-  wrote : written (sheetCall input out) ≡ sheet n (D .house .setting)
-  wrote = rw sheet-is (overlay-read out (sheet n (D .house .setting)))
+  wrote : written (sheetCall input out) ≡ made
+  wrote = rw sheet-is (overlay-read out made)
 
   makes : Made n order (sheetCall input out)
   makes =
@@ -107,6 +111,7 @@ module _ (n : ℕ) (order input out : List ℕ) (H : Holds n order input) where
         sheet-written = wrote;
         sheet-fits = rw wrote (omega (arith, sheet-length n (D .house .setting), long, switches-few n small));
         moves = rw wrote (moves n order small D);
+        shows = λ text. rw wrote (shows n order small D held text);
       }
 
 pub job : Job

@@ -1,6 +1,6 @@
 -- An order that is written as draw writes it is read back.
 -- Assumes nothing.
-use mathlib.Core.Path.{_≡_, refl, sym, ap, _∙_}
+use mathlib.Core.Path.{_≡_, sym, ap, _∙_}
 use mathlib.Core.List.{List, [], _∷_, _++_, append-nil}
 use Prim.Native.Nat.{ℕ, zero, suc, _+_, _≤_, _<_}
 use native.Mathlib.Omega.{arith}
@@ -12,8 +12,7 @@ use Rattle.answers.specs.Questions.{Question, ask, allYes, firstNo}
 use Rattle.answers.proofs.Questions.{asked-yes, asked-both}
 use Rattle.permutation.specs.Permutations.{IsPermutation, firstBadEntry}
 use Rattle.permutation.proofs.Permutations.{permutation-passes}
-use Rattle.numbers.specs.Numbers.{numberQuestions, numberAt}
-use Rattle.codec.specs.Sheet.{numbersBytes}
+use Rattle.numbers.specs.Numbers.{numberQuestions}
 use Rattle.codec.specs.Reading.{numbersQuestions, numbersAt, placePast}
 use Rattle.codec.specs.Inner.{Fourteens}
 use Rattle.codec.proofs.Rows.{Back, row-back}
@@ -47,22 +46,25 @@ module _ (n : ℕ) (order : List ℕ) (small : n ≤ 1024) (O : IsPermutation n 
   unfolding placePast
   end-back = rw count-back (back .place)
 
-  both : BothPass (numberQuestions (orderBytes order) 0) (numbersQuestions (length order) (orderBytes order) (entriesAt (orderBytes order)))
+  abbrev row : ℕ → List Question
+  row k = numbersQuestions k (orderBytes order) (entriesAt (orderBytes order))
+
+  both : BothPass (numberQuestions (orderBytes order) 0) (row (length order))
   unfolding numbersQuestions
-  both =
-      both-pass (numberQuestions (orderBytes order) 0) (numbersQuestions (length order) (orderBytes order) (entriesAt (orderBytes order)))
-      (back .asked)
+  both = both-pass (numberQuestions (orderBytes order) 0) (row (length order)) (back .asked)
 
   form-asked : firstNo (formQuestions (orderBytes order)) ≡ allYes
   unfolding formQuestions
   form-asked =
       let input = orderBytes order in
-      let ended : List Question = ask 12 (endOf input) (leb (length input) (endOf input)) ∷ [] in
-      let row : List Question = numbersQuestions (countIn input) input (entriesAt input) in
-      asked-both (numberQuestions input 0) (ask 1 0 (leb (countIn input) 1024) ∷ (row ++ ended)) (both .first)
-      ∙ asked-yes 1 0 (leb (countIn input) 1024) (row ++ ended) (le-leb (countIn input) 1024 (omega (arith, count-back, O .whole)))
-      ∙ asked-both row ended (rw count-back (both .second))
-      ∙ asked-yes 12 (endOf input) (leb (length input) (endOf input)) [] (le-leb (length input) (endOf input) (omega (arith, end-back)))
+      let c = countIn input in
+      let few = leb c 1024 in
+      let whole = leb (length input) (endOf input) in
+      let end : List Question = ask 12 (endOf input) whole ∷ [] in
+      asked-both (numberQuestions input 0) (ask 1 0 few ∷ (row c ++ end)) (both .first)
+      ∙ asked-yes 1 0 few (row c ++ end) (le-leb c 1024 (omega (arith, count-back, O .whole)))
+      ∙ asked-both (row c) end (rw count-back (both .second))
+      ∙ asked-yes 12 (endOf input) whole [] (le-leb (length input) (endOf input) (omega (arith, end-back)))
 
   entries-asked : firstNo (entryQuestions order) ≡ allYes
   entries-asked =
