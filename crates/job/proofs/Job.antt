@@ -2,7 +2,7 @@
 -- says, and back.
 -- Assumes nothing.
 use mathlib.Core.Path.{_≡_, ap, _∙_}
-use mathlib.Core.List.{List, []}
+use mathlib.Core.List.{List, [], _∷_}
 use Prim.Native.Nat.{ℕ, _*_, _/_, _≤_}
 use native.Mathlib.Omega.{arith}
 use borrow.Author.Tests.{le-leb, eq-eqb, eqb-true}
@@ -26,7 +26,7 @@ use Rattle.setting.proofs.Whole.{setting-canonical}
 use Rattle.codec.specs.Sheet.{sheet}
 use Rattle.codec.proofs.Asking.{BothPass, both-pass}
 use Rattle.codec.proofs.Rows.{numbers-length}
-use Rattle.codec.proofs.Writing.{sheet-length}
+use Rattle.codec.proofs.Writing.{bytes-most, sheet-length}
 use Rattle.orders.specs.Orders.{countIn, entriesAt, orderIn, formQuestions, entryQuestions, orderQuestions, settingFor}
 use Rattle.orders.proofs.Asking.{places-small}
 use Rattle.drawing.specs.Draw.{wordAt, wordsIn, orderBytes, drawQuestions, drawCall}
@@ -53,12 +53,17 @@ module _ (n : ℕ) (bytes out : List ℕ) (small : n ≤ 1024) (filled : length 
   unfolding drawCall drawQuestions
   draw-is = rw (le-leb n 1024 small, eq-eqb (length (wordsIn bytes)) n word-count)
 
+  wrote-order : written (drawCall n bytes out) ≡ orderBytes order
+  wrote-order = rw draw-is (overlay-read out (orderBytes order))
+
   draws : Drawn n order (drawCall n bytes out)
+  unfolding orderBytes
   draws =
       record {
         permutation = permutation;
         draw-accepted = ap (λ (o : Outcome). o .answer) draw-is;
-        order-written = rw (draw-is, overlay-read out (orderBytes order)) (order-holds n order small permutation);
+        order-written = rw wrote-order (order-holds n order small permutation);
+        order-fits = rw wrote-order (omega (arith, bytes-most (length order ∷ order), permutation .whole));
       }
 
 -- ---- sheet

@@ -107,7 +107,8 @@ module _ (n : ℕ) (order : List ℕ) (small : n ≤ 1024) (D : Demand2 n order)
       returned =
           ap (λ (o : Outcome). unmixCall made width (o .buffer)) (mix-is width blocks)
           ∙ unmix-is width mixed
-          ∙ rw (D .return-accepted width mixed log (fits mixed-fill), D .returns width blocks log log (fits F) (fits F .log-room))
+          ∙ rw (D .return-accepted width mixed log (fits mixed-fill))
+          (ap (outcome (accepted (W n))) (D .returns width blocks log log (fits F) (fits F .log-room)))
 
     moves-so : Moves n order made
     moves-so =

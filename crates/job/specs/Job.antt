@@ -23,7 +23,7 @@ use Rattle.moving.specs.Calls.{mixCall, unmixCall}
 use Rattle.showing.specs.Show.{orderText, pictured, showCall}
 use Rattle.claims.specs.Carrying.{block}
 
--- what draw and sheet write: as many bytes of the buffer's front as the answer counts
+-- what draw and sheet write to standard output: as many bytes of the buffer's front as the answer counts
 abbrev pub written : Outcome → List ℕ
 written o = take (o .answer .count) (o .buffer)
 
@@ -39,11 +39,12 @@ pub record Filled (n width : ℕ) (blocks : List ℕ) : Type 0 where
   pub width-small : width ≤ 256
   pub blocks-fill : length blocks ≡ n * width
 
--- draw is accepted, and what it writes holds the order, a permutation
+-- draw is accepted, and what it writes, at most 2,050 bytes, holds the order, a permutation
 pub record Drawn (n : ℕ) (order : List ℕ) (o : Outcome) : Type 0 where
   pub permutation : IsPermutation n order
   pub draw-accepted : o .answer ≡ accepted (length (orderBytes order))
   pub order-written : Holds n order (written o)
+  pub order-fits : length (written o) ≤ 2050
 
 -- mix and unmix with one sheet, on any blocks: both are accepted, mix carries the block at each place i to place order[i],
 -- and unmix brings all of them back
