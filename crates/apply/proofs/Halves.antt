@@ -16,8 +16,8 @@ use Rattle.network.specs.Network.{down}
 use Rattle.network.specs.Blocks.{cut}
 use Rattle.network.specs.Log.{Entry}
 use Rattle.network.proofs.Blocks.{cut-append, cut-of-take, take-cut, drop-cut}
-use Rattle.exchange.specs.Ran.{Lent, Ran}
-use Rattle.exchange.proofs.Runs.{log-then}
+use Rattle.apply_exchange.specs.Ran.{Lent, Ran}
+use Rattle.apply_exchange.proofs.Runs.{log-then}
 
 -- ---- the parts of a slice, lent one after the other and back
 

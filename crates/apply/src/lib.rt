@@ -12,7 +12,7 @@ ghost use Rattle.network.specs.Wiring.{paper};
 ghost use Rattle.network.specs.Network.{network};
 ghost use Rattle.network.specs.Move.{forward, backward};
 ghost use Rattle.network.specs.Log.{switches};
-ghost use Rattle.exchange.specs.Ran.{Lent, Ran, bitsBack};
+ghost use Rattle.apply_exchange.specs.Ran.{Lent, Ran, bitsBack};
 ghost use Rattle.apply.specs.Calls.{applyQuestions, applyCall, inverseCall};
 
 // Questions 1, 2, 3, 4, 5, 7 in their sequence: the refusal of the first that gets a no, or number 0.
@@ -63,17 +63,17 @@ fn run(
         return e;
     }
     if m == 2 {
-        exchange::layer(blocks, width, m, 1, o, bits, log, e);
+        apply_exchange::layer(blocks, width, m, 1, o, bits, log, e);
         return e + 1;
     }
     let k = (m + 1) / 2; // the places of the top network
     let h = m - k;
     let cut = k * width;
     let inputs = k - 1;
-    exchange::layer(blocks, width, m, inputs, o, bits, log, e);
+    apply_exchange::layer(blocks, width, m, inputs, o, bits, log, e);
     let top = run(&mut blocks[..cut], width, k, o, bits, log, e + inputs);
     let bottom = run(&mut blocks[cut..], width, h, o + k, bits, log, top);
-    exchange::layer(blocks, width, m, h, o, bits, log, bottom);
+    apply_exchange::layer(blocks, width, m, h, o, bits, log, bottom);
     bottom + h
 }
 
@@ -94,17 +94,17 @@ fn run_back(
         return e;
     }
     if m == 2 {
-        exchange::layer_back(blocks, width, m, 1, o, bits, log, e);
+        apply_exchange::layer_back(blocks, width, m, 1, o, bits, log, e);
         return e + 1;
     }
     let k = (m + 1) / 2;
     let h = m - k;
     let cut = k * width;
-    exchange::layer_back(blocks, width, m, h, o, bits, log, e);
+    apply_exchange::layer_back(blocks, width, m, h, o, bits, log, e);
     let bottom = run_back(&mut blocks[cut..], width, h, o + k, bits, log, e + h);
     let top = run_back(&mut blocks[..cut], width, k, o, bits, log, bottom);
     let inputs = k - 1;
-    exchange::layer_back(blocks, width, m, inputs, o, bits, log, top);
+    apply_exchange::layer_back(blocks, width, m, inputs, o, bits, log, top);
     top + inputs
 }
 

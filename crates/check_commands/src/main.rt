@@ -26,9 +26,9 @@ fn move_blocks(
     scattered: &mut [u8],
 ) -> Tally {
     plain::scatter(order, width, home, scattered);
-    let mixed = moving::mix(sheet, width, blocks);
+    let mixed = cmd_move::mix(sheet, width, blocks);
     let t = tally::tallied(accepted(before, mixed), check::same(blocks, scattered));
-    let back = moving::unmix(sheet, width, blocks);
+    let back = cmd_move::unmix(sheet, width, blocks);
     tally::tallied(accepted(t, back), check::same(blocks, home))
 }
 
@@ -80,7 +80,7 @@ fn with_made(
 
 fn with_order(t: Tally, n: usize, width: usize, seed: u32, order: &[u8]) -> Tally {
     let mut sheet = [0u8; 1321];
-    let made = sheets::order_sheet(order, &mut sheet);
+    let made = cmd_sheet::order_sheet(order, &mut sheet);
     with_made(accepted(t, made), n, width, seed, order, &sheet, made.count)
 }
 
@@ -109,7 +109,7 @@ fn with_drawn(
 
 fn with_words(n: usize, width: usize, seed: u32, words: &[u8]) -> Tally {
     let mut order = [0u8; 2050];
-    let drawn = drawing::draw_order(n, words, &mut order);
+    let drawn = cmd_draw::draw_order(n, words, &mut order);
     with_drawn(
         accepted(tally::none(), drawn),
         n,
@@ -123,7 +123,7 @@ fn with_words(n: usize, width: usize, seed: u32, words: &[u8]) -> Tally {
 fn job(n: usize, width: usize, seed: u32) -> Tally {
     let mut words = io::buffer();
     plain::fill(&mut words, seed);
-    let most = plain::within(drawing::bytes_for(n), &words);
+    let most = plain::within(cmd_draw::bytes_for(n), &words);
     with_words(n, width, seed, &words[..most])
 }
 
@@ -137,9 +137,9 @@ fn unmoved(
     number: usize,
     place: usize,
 ) -> Tally {
-    let mixed = moving::mix(sheet, width, blocks);
+    let mixed = cmd_move::mix(sheet, width, blocks);
     let t = refused(before, mixed, number, place);
-    let back = moving::unmix(sheet, width, blocks);
+    let back = cmd_move::unmix(sheet, width, blocks);
     tally::tallied(refused(t, back, number, place), plain::sevens(blocks))
 }
 
@@ -157,7 +157,7 @@ fn order_kept(bytes: &[u8; 2050]) -> bool {
 
 fn bad_sheet(before: Tally, sheet: &[u8], number: usize, place: usize) -> Tally {
     let mut text = plain::text();
-    let shown = showing::show_sheet(sheet, &mut text);
+    let shown = cmd_show::show_sheet(sheet, &mut text);
     let t = tally::tallied(refused(before, shown, number, place), text_kept(&text));
     let mut blocks = [7u8; 9];
     unmoved(t, sheet, 1, &mut blocks, number, place)
@@ -190,7 +190,7 @@ fn bad_blocks() -> Tally {
 
 fn bad_order(t: Tally, order: &[u8], number: usize, place: usize) -> Tally {
     let mut sheet = [7u8; 1321];
-    let made = sheets::order_sheet(order, &mut sheet);
+    let made = cmd_sheet::order_sheet(order, &mut sheet);
     tally::tallied(refused(t, made, number, place), sheet_kept(&sheet))
 }
 
@@ -205,7 +205,7 @@ fn bad_orders() -> Tally {
 
 fn bad_draw(t: Tally, n: usize, words: &[u8], number: usize) -> Tally {
     let mut order = [7u8; 2050];
-    let drawn = drawing::draw_order(n, words, &mut order);
+    let drawn = cmd_draw::draw_order(n, words, &mut order);
     tally::tallied(refused(t, drawn, number, 0), order_kept(&order))
 }
 
@@ -221,7 +221,7 @@ fn bad_draws() -> Tally {
 // ---- arguments and the line of a refusal
 
 fn argument(t: Tally, text: &[u8], value: usize) -> Tally {
-    tally::tallied(t, arguments::decimal(text) == value)
+    tally::tallied(t, cmd_arguments::decimal(text) == value)
 }
 
 fn check_arguments() -> Tally {
@@ -246,7 +246,7 @@ fn is_line(made: &[u8; 53], n: usize, text: &[u8]) -> bool {
 
 fn line(t: Tally, answer: Answer, text: &[u8]) -> Tally {
     let mut made = [7u8; 53];
-    let n = console::error_text(answer, &mut made);
+    let n = cmd_console::error_text(answer, &mut made);
     tally::tallied(t, is_line(&made, n, text))
 }
 
@@ -254,8 +254,8 @@ fn check_lines() -> Tally {
     let a = line(tally::none(), answers::refuse(3, 0), b"refused 3 at 0\n");
     let b = line(a, answers::refuse(12, 1321), b"refused 12 at 1321\n");
     let c = line(b, answers::accept(9), b"");
-    let d = tally::tallied(c, console::output_length(answers::accept(9), 5) == 5);
-    tally::tallied(d, console::output_length(answers::refuse(9, 1), 5) == 0)
+    let d = tally::tallied(c, cmd_console::output_length(answers::accept(9), 5) == 5);
+    tally::tallied(d, cmd_console::output_length(answers::refuse(9, 1), 5) == 0)
 }
 
 fn main() {

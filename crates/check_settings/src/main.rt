@@ -7,7 +7,7 @@ use libc::STDOUT_FILENO;
 // The text of an input.
 fn show(input: &[u8]) {
     let mut text = [0u8; 9252];
-    let end = report::settings_text(input, &mut text);
+    let end = cmd_settings::settings_text(input, &mut text);
     io::write_all(STDOUT_FILENO, &text[..end]);
 }
 

@@ -21,7 +21,7 @@ use Rattle.canonical.specs.Rule.{Canonical, ExactlyOne}
 use Rattle.canonical.specs.Carry.{Carries, BringsHome}
 use Rattle.canonical.proofs.Only.{exactly-one, canonical-length, canonical-bits}
 use Rattle.canonical.proofs.Carry.{canonical-carries, canonical-brings-home}
-use Rattle.codec.proofs.Round.{Writable, write-accepts, sheet-read}
+use Rattle.sheets.proofs.Round.{Writable, write-accepts, sheet-read}
 use Rattle.claims.specs.Calls.{Call, set, mix, return, questionsOf, outcomeOf, due}
 use Rattle.claims.specs.Carrying.{block, Fits, Demand2}
 use Rattle.claims.proofs.Asked.{set-passes, apply-passes}

@@ -26,7 +26,7 @@ use Rattle.canonical.proofs.Only.{canonical-length}
 use Rattle.steps.specs.Sequence.{setEntries}
 use Rattle.steps.specs.Run.{settingOf}
 use Rattle.steps.proofs.Lengths.{length-setEntries}
-use Rattle.setting.proofs.Whole.{setting-canonical}
+use Rattle.steps_canonical.proofs.Whole.{setting-canonical}
 use Rattle.apply.specs.Calls.{applyCall, inverseCall}
 use Rattle.control.specs.Calls.{setCall}
 use Rattle.claims.specs.Calls.{Call, Kind, setting, mixing, returning, set, mix, return, kindOf, placesOf, questionsOf, outcomeOf, lentBuffer, lentLog, Accepted, countOf, written, due, runOf, Right}

@@ -11,8 +11,8 @@ use Rattle.counts.specs.Counts.{W, E}
 use Rattle.network.specs.Wiring.{paper}
 use Rattle.network.specs.Blocks.{cut}
 use Rattle.canonical.specs.Rule.{ExactlyOne}
-use Rattle.codec.specs.Sheet.{sheet}
-use Rattle.codec.specs.Calls.{writeSheet, readSheet}
+use Rattle.sheets.specs.Sheet.{sheet}
+use Rattle.sheets.specs.Calls.{writeSheet, readSheet}
 use Rattle.claims.specs.Calls.{Call, set, mix, return, outcomeOf, countOf, due}
 
 -- block i of n blocks of `width` bytes

@@ -7,7 +7,7 @@ use Rattle.answers.specs.declared.Answer.{Answer}
 use Rattle.answers.specs.Answers.{refusal, accepted}
 use Rattle.answers.specs.Outcomes.{Outcome, outcome, Logged, logged}
 use Rattle.counts.specs.Counts.{W, E}
-use Rattle.codec.specs.Calls.{writeSheet, readSheet}
+use Rattle.sheets.specs.Calls.{writeSheet, readSheet}
 use Rattle.shuffle.specs.Shuffled.{shuffleCall}
 use Rattle.claims.specs.Calls.{Call, set, mix, return, outcomeOf}
 

@@ -22,7 +22,7 @@ use Rattle.permutation.specs.Permutations.{goodEntry, firstBadEntry}
 use Rattle.permutation.proofs.Permutations.{passes-permutation}
 use Rattle.steps.specs.Sequence.{setEntries}
 use Rattle.steps.specs.Run.{settingOf}
-use Rattle.sweeps.specs.Tables.{Below}
+use Rattle.control_sweeps.specs.Tables.{Below}
 use Rattle.control.specs.Inner.{Sets}
 use Rattle.control.specs.Calls.{setQuestions, setCall}
 

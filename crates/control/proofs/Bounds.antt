@@ -18,12 +18,12 @@ use Rattle.steps.specs.Sweeps.{store, each, act, marked, noneMarked, lowestUnma
 use Rattle.steps.specs.State.{State, Subnetwork, outputBit}
 use Rattle.steps.specs.Steps.{other, digit, step1, step2, step3, step4, step5, step6}
 use Rattle.steps.specs.Fold.{roundsOf, inputSteps, setNet}
-use Rattle.sweeps.specs.Tables.{Below}
-use Rattle.sweeps.proofs.Numbers.{digit-small}
-use Rattle.sweeps.proofs.Places.{each-ahead}
-use Rattle.setter.specs.declared.Walk.{Walk}
-use Rattle.setter.specs.Walks.{state, within}
-use Rattle.setter.proofs.Bounds.{set-below, store-below, act-below, each-below, below-more, pick-below, look-below, seek-below, other-below, pair-within}
+use Rattle.control_sweeps.specs.Tables.{Below}
+use Rattle.control_sweeps.proofs.Numbers.{digit-small}
+use Rattle.control_sweeps.proofs.Places.{each-ahead}
+use Rattle.control_steps.specs.declared.Walk.{Walk}
+use Rattle.control_steps.specs.Walks.{state, within}
+use Rattle.control_steps.proofs.Bounds.{set-below, store-below, act-below, each-below, below-more, pick-below, look-below, seek-below, other-below, pair-within}
 use Rattle.control.specs.Inner.{Tidy}
 
 enc-within : (k q : ℕ) (t : Bool) → paper .enc k (q, t) ≤ q + k

@@ -21,8 +21,8 @@ use Rattle.steps.specs.State.{State, Subnetwork, outputBit}
 use Rattle.steps.specs.Steps.{step4, step5, step6}
 use Rattle.steps.specs.Sequence.{entry, rounds, inputEntries, entriesOf}
 use Rattle.steps.specs.Fold.{roundsOf, inputSteps, setNet}
-use Rattle.setter.specs.declared.Walk.{Walk}
-use Rattle.setter.specs.Walks.{within, Went}
+use Rattle.control_steps.specs.declared.Walk.{Walk}
+use Rattle.control_steps.specs.Walks.{within, Went}
 use Rattle.control.proofs.Bounds.{further}
 
 pub went-none : (w : Walk) (l : List ℕ) → Went [] 0 w w l l

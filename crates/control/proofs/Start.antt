@@ -21,9 +21,9 @@ use Rattle.steps.specs.Fold.{setNet}
 use Rattle.steps.proofs.Places.{Unlike}
 use Rattle.steps.proofs.Running.{run-is-fold}
 use Rattle.steps.proofs.Sweeps.{length-each, each-at}
-use Rattle.sweeps.specs.Tables.{Below}
-use Rattle.setter.specs.declared.Walk.{Walk}
-use Rattle.setter.specs.Walks.{state, Went}
+use Rattle.control_sweeps.specs.Tables.{Below}
+use Rattle.control_steps.specs.declared.Walk.{Walk}
+use Rattle.control_steps.specs.Walks.{state, Went}
 use Rattle.control.specs.Inner.{Room, Tidy, Lengthens, Sets}
 use Rattle.control.proofs.Entries.{length-entries}
 

@@ -22,8 +22,8 @@ use Rattle.steps.specs.Steps.{digit, step1, step2, step3, step4, step5, step6}
 use Rattle.steps.specs.Fold.{roundsOf, inputSteps, setNet}
 use Rattle.steps.proofs.Places.{Unlike}
 use Rattle.steps.proofs.Sweeps.{length-each, each-off, each-at, turned, SidesUnlike, length-act, act-off, act-at}
-use Rattle.sweeps.specs.Tables.{Within}
-use Rattle.setter.specs.Walks.{within}
+use Rattle.control_sweeps.specs.Tables.{Within}
+use Rattle.control_steps.specs.Walks.{within}
 use Rattle.control.specs.Inner.{Lengthens}
 use Rattle.control.proofs.Bounds.{further}
 

@@ -15,9 +15,9 @@ use Rattle.steps.specs.State.{State, outputBit}
 use Rattle.steps.specs.Steps.{step5, step6}
 use Rattle.steps.specs.Sequence.{entry, inputEntries, entriesOf}
 use Rattle.steps.specs.Fold.{inputSteps, setNet}
-use Rattle.sweeps.specs.Tables.{Below}
-use Rattle.setter.specs.declared.Walk.{Walk}
-use Rattle.setter.specs.Walks.{state, within, Went}
+use Rattle.control_sweeps.specs.Tables.{Below}
+use Rattle.control_steps.specs.declared.Walk.{Walk}
+use Rattle.control_steps.specs.Walks.{state, within, Went}
 use Rattle.control.specs.Inner.{Room, Tidy, Lengthens}
 use Rattle.control.proofs.Bounds.{tidy-more, tidy5, tidy-input, tidy-net}
 use Rattle.control.proofs.Trails.{Halfway, halfway-enter, halfway-kept, halfway-top, halfway-bottom}

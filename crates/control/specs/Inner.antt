@@ -11,8 +11,8 @@ use Rattle.network.specs.Log.{words}
 use Rattle.steps.specs.State.{State}
 use Rattle.steps.specs.Sequence.{setEntries}
 use Rattle.steps.specs.Run.{settingOf}
-use Rattle.sweeps.specs.Tables.{Below}
-use Rattle.setter.specs.declared.Walk.{Walk}
+use Rattle.control_sweeps.specs.Tables.{Below}
+use Rattle.control_steps.specs.declared.Walk.{Walk}
 
 -- the tables, the bits and the log have room for the network of m places from o
 pub record Room (o m : ℕ) (w : Walk) (values trails marks bits log : List ℕ) : Type 0 where

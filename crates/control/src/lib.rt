@@ -11,8 +11,8 @@ ghost use Rattle.network.specs.Network.{network};
 ghost use Rattle.steps.specs.Steps.{step5};
 ghost use Rattle.steps.specs.Sequence.{entry, rounds, inputEntries, entriesOf};
 ghost use Rattle.steps.specs.Fold.{roundsOf, inputSteps, setNet};
-ghost use Rattle.sweeps.specs.Tables.{Below};
-ghost use Rattle.setter.specs.Walks.{state, within, Went};
+ghost use Rattle.control_sweeps.specs.Tables.{Below};
+ghost use Rattle.control_steps.specs.Walks.{state, within, Went};
 ghost use Rattle.control.specs.Inner.{Room, Tidy, Lengthens, Sets};
 ghost use Rattle.control.specs.Calls.{setCall};
 
@@ -24,14 +24,14 @@ fn round(
     o: usize,
     m: usize,
     log: &mut [u16],
-    w: setter::Walk,
-) -> setter::Walk
+    w: control_steps::Walk,
+) -> control_steps::Walk
     requires { ⌜ (2 ≤ m) × (o + m ≤ 1024) × (o + m ≤ length (now vals)) × (up m ≤ length (now marks)) × (w .b + up m ≤ length (now bits)) × (3 * w .e + 9 ≤ length (now log)) × Tidy 32768 (state (now vals) [] (now marks) (now bits) w) ⌝ }
     ensures { λ r. ⌜ Went (entry 1 o m ∷ entry 2 o m ∷ entry 3 o m ∷ []) 0 w r (now (log .entry)) (now (log .exit)) × ((ts : List ℕ) → state (now (vals .entry)) ts (now (marks .exit)) (now (bits .exit)) r ≡ roundsOf paper (within o m (w .b)) 1 (state (now (vals .entry)) ts (now (marks .entry)) (now (bits .entry)) w)) ⌝ }
 {
-    let x = setter::step1(vals, marks, o, m, log, w);
-    let y = setter::step2(vals, o, m, log, x);
-    setter::step3(marks, bits, o, m, log, y)
+    let x = control_steps::step1(vals, marks, o, m, log, w);
+    let y = control_steps::step2(vals, o, m, log, x);
+    control_steps::step3(marks, bits, o, m, log, y)
 }
 
 // The k rounds of a network.
@@ -42,8 +42,8 @@ fn rounds(
     o: usize,
     m: usize,
     log: &mut [u16],
-    w: setter::Walk,
-) -> setter::Walk
+    w: control_steps::Walk,
+) -> control_steps::Walk
     requires { ⌜ (2 ≤ m) × (o + m ≤ 1024) × (o + m ≤ length (now vals)) × (up m ≤ length (now marks)) × (w .b + up m ≤ length (now bits)) × (3 * (w .e + 3 * up m) ≤ length (now log)) × Tidy 32768 (state (now vals) [] (now marks) (now bits) w) ⌝ }
     ensures { λ r. ⌜ Went (rounds (up m) o m) 0 w r (now (log .entry)) (now (log .exit)) × ((ts : List ℕ) → state (now (vals .entry)) ts (now (marks .exit)) (now (bits .exit)) r ≡ roundsOf paper (within o m (w .b)) (up m) (state (now (vals .entry)) ts (now (marks .entry)) (now (bits .entry)) w)) ⌝ }
 {
@@ -66,8 +66,8 @@ fn input_steps(
     o: usize,
     m: usize,
     log: &mut [u16],
-    w: setter::Walk,
-) -> setter::Walk
+    w: control_steps::Walk,
+) -> control_steps::Walk
     requires { ⌜ (2 ≤ m) × Room o m w (now vals) (now trails) (now marks) (now bits) (now log) × Tidy 32768 (state (now vals) (now trails) (now marks) (now bits) w) ⌝ }
     ensures { λ r. ⌜ Went (inputEntries o m) (up m - 1) w r (now (log .entry)) (now (log .exit)) × (state (now (vals .exit)) (now (trails .exit)) (now (marks .exit)) (now (bits .exit)) r ≡ inputSteps paper (within o m (w .b)) (state (now (vals .entry)) (now (trails .entry)) (now (marks .entry)) (now (bits .entry)) w)) ⌝ }
 {
@@ -75,7 +75,7 @@ fn input_steps(
         return w;
     }
     let x = rounds(vals, marks, bits, o, m, log, w);
-    setter::step4(vals, trails, marks, bits, o, m, log, x)
+    control_steps::step4(vals, trails, marks, bits, o, m, log, x)
 }
 
 // All that comes before the halves.
@@ -87,13 +87,13 @@ fn enter(
     o: usize,
     m: usize,
     log: &mut [u16],
-    w: setter::Walk,
-) -> setter::Walk
+    w: control_steps::Walk,
+) -> control_steps::Walk
     requires { ⌜ (2 ≤ m) × Room o m w (now vals) (now trails) (now marks) (now bits) (now log) × Tidy 32768 (state (now vals) (now trails) (now marks) (now bits) w) × Lengthens o m (now trails) ⌝ }
     ensures { λ r. ⌜ Went (inputEntries o m ++ (entry 5 o m ∷ [])) (up m - 1) w r (now (log .entry)) (now (log .exit)) × (state (now (vals .exit)) (now (trails .exit)) (now (marks .exit)) (now (bits .exit)) r ≡ step5 paper (within o m (w .b)) (inputSteps paper (within o m (w .b)) (state (now (vals .entry)) (now (trails .entry)) (now (marks .entry)) (now (bits .entry)) w))) ⌝ }
 {
     let x = input_steps(vals, trails, marks, bits, o, m, log, w);
-    setter::step5(vals, trails, o, m, log, x)
+    control_steps::step5(vals, trails, o, m, log, x)
 }
 
 // The network of m places from o, whose bits begin at w.b.
@@ -105,8 +105,8 @@ fn set_network(
     o: usize,
     m: usize,
     log: &mut [u16],
-    w: setter::Walk,
-) -> setter::Walk
+    w: control_steps::Walk,
+) -> control_steps::Walk
     requires { ⌜ Room o m w (now vals) (now trails) (now marks) (now bits) (now log) × Tidy (1024 + 2 * w .b) (state (now vals) (now trails) (now marks) (now bits) w) × Lengthens o m (now trails) ⌝ }
     ensures { λ r. ⌜ Went (entriesOf paper (network m) (λ i. o + i)) (W m) w r (now (log .entry)) (now (log .exit)) × (state (now (vals .exit)) (now (trails .exit)) (now (marks .exit)) (now (bits .exit)) r ≡ setNet paper (network m) (λ i. o + i) (w .b) (state (now (vals .entry)) (now (trails .entry)) (now (marks .entry)) (now (bits .entry)) w)) ⌝ }
 {
@@ -117,7 +117,7 @@ fn set_network(
     let x = enter(vals, trails, marks, bits, o, m, log, w);
     let y = set_network(vals, trails, marks, bits, o, k, log, x);
     let z = set_network(vals, trails, marks, bits, o + k, m - k, log, y);
-    setter::step6(vals, trails, bits, o, m, log, z)
+    control_steps::step6(vals, trails, bits, o, m, log, z)
 }
 
 // The table starts as the order.
@@ -148,7 +148,7 @@ fn set_table(
     let n = order.len();
     let len = bits.len();
     load(vals, order);
-    sweeps::clear(bits, len);
+    control_sweeps::clear(bits, len);
     let w = set_network(
         vals,
         trails,
@@ -157,7 +157,7 @@ fn set_table(
         0,
         n,
         log,
-        setter::Walk {
+        control_steps::Walk {
             f: 0,
             c: 0,
             g: 0,

@@ -4,9 +4,9 @@ use libc::STDIN_FILENO;
 
 fn draw(n: usize, bytes: &[u8]) {
     let mut order = [0u8; 2050];
-    let answer = drawing::draw_order(n, bytes, &mut order);
+    let answer = cmd_draw::draw_order(n, bytes, &mut order);
     let made = answer.count;
-    console::finish(answer, &order[..made]);
+    cmd_console::finish(answer, &order[..made]);
 }
 
 fn read(bytes: &mut [u8], n: usize) {
@@ -15,8 +15,8 @@ fn read(bytes: &mut [u8], n: usize) {
 }
 
 fn main() {
-    let n = console::number_argument(1);
+    let n = cmd_console::number_argument(1);
     let mut bytes = [0u8; 4096];
-    let most = drawing::bytes_for(n);
+    let most = cmd_draw::bytes_for(n);
     read(&mut bytes[..most], n);
 }

@@ -3,9 +3,9 @@ use libc::STDIN_FILENO;
 
 fn sheet(input: &[u8]) {
     let mut made = [0u8; 1321];
-    let answer = sheets::order_sheet(input, &mut made);
+    let answer = cmd_sheet::order_sheet(input, &mut made);
     let n = answer.count;
-    console::finish(answer, &made[..n]);
+    cmd_console::finish(answer, &made[..n]);
 }
 
 fn main() {

@@ -1,1 +1,7 @@
-pub mod Sheets
+pub mod Unpacking
+pub mod Rows
+pub mod Writing
+pub mod Asking
+pub mod Calls
+pub mod Round
+pub mod Cases

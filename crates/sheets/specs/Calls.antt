@@ -1,18 +1,74 @@
--- The sheet of an order that an input holds (01: set, then write sheet).
+-- The two calls on sheets, whole (01, 'The questions': Write sheet, Read sheet).
 -- Assumes nothing: these are definitions.
-use mathlib.Core.List.{List}
-use Prim.Native.Nat.{ℕ}
-use lib.ListN.{length}
-use Rattle.answers.specs.Questions.{firstNo}
+use mathlib.Core.List.{List, [], _∷_, _++_}
+use Prim.Native.Nat.{ℕ, _-_}
+use lib.Dec.{leb, eqb}
+use lib.ListN.{length, take, drop}
+use Rattle.answers.specs.Questions.{Question, ask, askEach, firstNo}
 use Rattle.answers.specs.Outcomes.{Outcome, settled}
-use Rattle.codec.specs.Sheet.{sheet}
-use Rattle.orders.specs.Orders.{countIn, orderIn, orderQuestions, settingFor}
+use Rattle.bits.specs.Bits.{isBit}
+use Rattle.counts.specs.Counts.{W}
+use Rattle.numbers.specs.Numbers.{numberQuestions, numberAt}
+use Rattle.sheets.specs.Sheet.{numbersFor, sheet}
+use Rattle.sheets.specs.Reading.{numbersQuestions, numbersAt, placePast, bitsIn, allZero}
 
--- of its canonical setting
-abbrev pub sheetFor : List ℕ → List ℕ
-sheetFor input = sheet (countIn input) (settingFor (orderIn input))
+-- ---- write sheet: 1, 4, 7, 13
 
--- the questions of reading an order: the others that set and write sheet ask get a yes always, since there is room for the
--- longest setting, log and sheet. The sheet over the front of the output, and as count its bytes
-unfoldable pub sheetCall : List ℕ → List ℕ → Outcome
-sheetCall input out = settled (firstNo (orderQuestions input)) (length (sheetFor input)) (sheetFor input) out
+unfoldable pub writeQuestions : ℕ → List ℕ → ℕ → List Question
+writeQuestions n bits room =
+    ask 1 0 (leb n 1024)
+    ∷ ask 4 0 (eqb (length bits) (W n))
+    ∷ askEach 7 (isBit bits) (length bits)
+    ∷ ask 13 0 (leb (length (sheet n bits)) room)
+    ∷ []
+
+-- the sheet over the front of the output, and as count its bytes
+unfoldable pub writeSheet : ℕ → List ℕ → List ℕ → Outcome
+writeSheet n bits out = settled (firstNo (writeQuestions n bits (length out))) (length (sheet n bits)) (sheet n bits) out
+
+-- ---- read sheet: form (8, 9, 10), n (8, 9, 1), 4, each number (8, 9), 11, 12
+
+-- the form number stands first; n, where it ends; the fourteens, where n ends
+abbrev pub formIn : List ℕ → ℕ
+formIn input = numberAt input 0 .value
+
+abbrev pub placesAt : List ℕ → ℕ
+placesAt input = numberAt input 0 .next
+
+abbrev pub placesIn : List ℕ → ℕ
+placesIn input = numberAt input (placesAt input) .value
+
+abbrev pub fourteensAt : List ℕ → ℕ
+fourteensAt input = numberAt input (placesAt input) .next
+
+-- form, n, 4
+unfoldable pub headQuestions : List ℕ → ℕ → List Question
+headQuestions input room =
+    numberQuestions input 0
+    ++ (ask 10 0 (eqb (formIn input) 1)
+    ∷ (numberQuestions input (placesAt input)
+    ++ (ask 1 0 (leb (placesIn input) 1024)
+    ∷ ask 4 0 (leb (W (placesIn input)) room)
+    ∷ [])))
+
+-- the bits of all the fourteens: the setting's w, and then the fill bits
+unfoldable pub bitsFrom : List ℕ → ℕ → ℕ → List ℕ
+bitsFrom input w at = bitsIn (numbersAt (numbersFor w) input at)
+
+-- each number of the w bits from a place on, 11 at the last one's first byte, 12 at the first byte past them
+unfoldable pub bodyQuestions : List ℕ → ℕ → ℕ → List Question
+bodyQuestions input w at =
+    numbersQuestions (numbersFor w) input at
+    ++ (ask 11 (placePast (numbersFor w - 1) input at) (allZero (drop w (bitsFrom input w at)))
+    ∷ ask 12 (placePast (numbersFor w) input at) (leb (length input) (placePast (numbersFor w) input at))
+    ∷ [])
+
+unfoldable pub readQuestions : List ℕ → ℕ → List Question
+readQuestions input room = headQuestions input room ++ bodyQuestions input (W (placesIn input)) (fourteensAt input)
+
+-- the setting's bits over the front of the buffer, and as count n
+unfoldable pub readSheet : List ℕ → List ℕ → Outcome
+readSheet input buffer =
+    settled (firstNo (readQuestions input (length buffer))) (placesIn input)
+    (take (W (placesIn input)) (bitsFrom input (W (placesIn input)) (fourteensAt input)))
+    buffer

@@ -1,19 +1,244 @@
-// The sheet of an order: what the program `sheet` does with what it read.
+// Sheets: a setting written in numbers of one or two bytes.
+// A sheet's length depends on its bits (01), and with it branches of the functions that write and read its numbers. In
+// `write_sheet` nothing depends on the bits before question 7 is decided.
 ghost use mathlib.Core.Path.{_≡_};
+ghost use Prim.Native.Nat.{_≤_, _<_, _+_, _-_, _*_, min};
+ghost use lib.ListN.{length, take, drop};
+ghost use Rattle.answers.specs.Questions.{firstNo};
+ghost use Rattle.answers.specs.Buffers.{overlay};
 ghost use Rattle.answers.specs.Outcomes.{outcome};
-ghost use Rattle.sheets.specs.Calls.{sheetCall};
+ghost use Rattle.bits.specs.Bits.{Bits};
+ghost use Rattle.numbers.specs.Numbers.{numberBytes};
+ghost use Rattle.numbers.specs.Reading.{readOf};
+ghost use Rattle.sheets.specs.Sheet.{bitsNumber, numbersFor, fourteens, numbersBytes, sheet};
+ghost use Rattle.sheets.specs.Reading.{numbersQuestions, numbersAt, placePast, bitsIn, allZero};
+ghost use Rattle.sheets.specs.Calls.{
+  writeSheet,
+  readSheet,
+  headQuestions,
+  bodyQuestions,
+  placesIn,
+  fourteensAt,
+};
+ghost use Rattle.sheets.specs.Inner.{Put, Row, Fourteens};
 use answers::Answer;
+use numbers::ReadNumber;
 
-// The sheet of the order that an input holds, over the front of out: 1,321 bytes are enough for each.
-pub fn order_sheet(input: &[u8], out: &mut [u8; 1321]) -> Answer
-    ensures { λ r. ⌜ outcome r (now (out .exit)) ≡ sheetCall (now (input .entry)) (now (out .entry)) ⌝ }
+// ---- writing
+
+// 01: write sheet. The sheet is made aside, so that a refusal leaves the output alone.
+pub fn write_sheet(n: usize, bits: &[u8], out: &mut [u8]) -> Answer
+    ensures { λ r. ⌜ outcome r (now (out .exit)) ≡ writeSheet n (now (bits .entry)) (now (out .entry)) ⌝ }
 {
-    let mut bits = [0u8; 9217];
-    let read = orders::order_setting(input, &mut bits);
-    if read.number != 0 {
-        return read;
+    if 1024 < n {
+        return answers::refuse(1, 0);
     }
-    let n = read.count;
+    if bits.len() != counts::switches(n) {
+        return answers::refuse(4, 0);
+    }
+    let bad = bits::first_bad_bit(bits);
+    if bad != bits.len() {
+        return answers::refuse(7, bad);
+    }
+    let mut made = [0u8; 1321];
+    let end = make_sheet(n, bits, &mut made);
+    if out.len() < end {
+        return answers::refuse(13, 0);
+    }
+    copy_front(&made, end, out);
+    answers::accept(end)
+}
+
+// The sheet, over the front of buf: 1,321 bytes are enough for each. The answer is its length.
+fn make_sheet(n: usize, bits: &[u8], buf: &mut [u8]) -> usize
+    requires { ⌜ (n ≤ 1024) × (length (now bits) ≤ 9217) × Bits (now bits) × (1321 ≤ length (now buf)) ⌝ }
+    ensures { λ r. ⌜ Put (now (buf .entry)) 0 (sheet n (now (bits .entry))) r (now (buf .exit)) ⌝ }
+{
+    let a = put_number(buf, 0, 1);
+    let b = put_number(buf, a, n);
+    let k = (bits.len() + 13) / 14;
+    put_fourteens(bits, k, buf, b)
+}
+
+// A number's bytes, at a place of buf. The answer is the place after them. Public for the crate that writes an order in the
+// same numbers, and so with a `requires` of its own.
+pub fn put_number(buf: &mut [u8], at: usize, v: usize) -> usize
+    requires { ⌜ (v < 16384) × (at + 2 ≤ length (now buf)) ⌝ }
+    ensures { λ r. ⌜ Put (now (buf .entry)) at (numberBytes v) r (now (buf .exit)) ⌝ }
+{
+    if v < 128 {
+        buf[at] = v as u8;
+        return at + 1;
+    }
+    let second = at + 1;
+    buf[at] = (v % 128 + 128) as u8;
+    buf[second] = (v / 128) as u8;
+    at + 2
+}
+
+// The numbers of k fourteens of bits, from a place of buf on. The answer is the place after them.
+fn put_fourteens(bits: &[u8], k: usize, buf: &mut [u8], start: usize) -> usize
+    requires { ⌜ (14 * k ≤ length (now bits) + 13) × (start + 2 * k ≤ length (now buf)) × Bits (now bits) ⌝ }
+    ensures { λ r. ⌜ Put (now (buf .entry)) start (numbersBytes (fourteens k (now (bits .entry)))) r (now (buf .exit)) ⌝ }
+{
+    let mut at = start;
+    let mut j = 0;
+    while j < k {
+        at = put_number(buf, at, fourteen(bits, j * 14));
+        j += 1;
+    }
+    at
+}
+
+// The number of the fourteen bits from a place on, or of those that are left: the last, which is the highest, goes in first.
+fn fourteen(bits: &[u8], from: usize) -> usize
+    requires { ⌜ (from ≤ length (now bits)) × Bits (now bits) ⌝ }
+    ensures { λ r. ⌜ r ≡ bitsNumber (take 14 (drop from (now (bits .entry)))) ⌝ }
+{
+    let size = at_most_fourteen(bits.len() - from);
+    let mut v = 0;
+    let mut j = 0;
+    while j < size {
+        j += 1;
+        v = v * 2 + wide(bits[from + size - j]);
+    }
+    v
+}
+
+fn at_most_fourteen(left: usize) -> usize
+    ensures { λ r. ⌜ r ≡ min 14 left ⌝ }
+{
+    if left < 14 { left } else { 14 }
+}
+
+fn wide(x: u8) -> usize
+    ensures { λ r. ⌜ r ≡ x ⌝ }
+{
+    x as usize
+}
+
+// The first n bytes of made, over the front of out.
+fn copy_front(made: &[u8], n: usize, out: &mut [u8])
+    requires { ⌜ (n ≤ length (now made)) × (n ≤ length (now out)) ⌝ }
+    ensures { λ _. ⌜ now (out .exit) ≡ overlay (now (out .entry)) 0 (take n (now (made .entry))) ⌝ }
+{
+    let mut i = 0;
+    while i < n {
+        out[i] = made[i];
+        i += 1;
+    }
+}
+
+// ---- reading
+
+// 01: read sheet. All is asked, into a row of numbers aside, before a bit is written.
+pub fn read_sheet(input: &[u8], bits: &mut [u8]) -> Answer
+    ensures { λ r. ⌜ outcome r (now (bits .exit)) ≡ readSheet (now (input .entry)) (now (bits .entry)) ⌝ }
+{
+    let head = read_head(input, bits.len());
+    let ReadNumber::Number(n, at) = head else {
+        return numbers::answer(head);
+    };
     let w = counts::switches(n);
-    codec::write_sheet(n, &bits[..w], out)
+    let mut values = [0usize; 659];
+    let body = read_body(input, w, at, &mut values);
+    let ReadNumber::Number(k, _) = body else {
+        return numbers::answer(body);
+    };
+    write_bits(&values[..k], w, bits);
+    answers::accept(n)
+}
+
+// The form, n, and whether there is room for the bits: n with the place after it, or the refusal.
+fn read_head(input: &[u8], room: usize) -> ReadNumber
+    ensures { λ r. ⌜ r ≡ readOf (firstNo (headQuestions (now (input .entry)) room)) (placesIn (now (input .entry))) (fourteensAt (now (input .entry))) ⌝ }
+{
+    let form = numbers::read_number(input, 0);
+    let ReadNumber::Number(v, at) = form else {
+        return form;
+    };
+    if v != 1 {
+        return ReadNumber::Refused(10, 0);
+    }
+    let places = numbers::read_number(input, at);
+    let ReadNumber::Number(n, _) = places else {
+        return places;
+    };
+    if 1024 < n {
+        return ReadNumber::Refused(1, 0);
+    }
+    if room < counts::switches(n) {
+        return ReadNumber::Refused(4, 0);
+    }
+    places
+}
+
+// The numbers of w bits, their fill bits, and whether the input ends there: how many numbers there are with the place
+// after them, or the refusal. The numbers go to the front of values.
+fn read_body(input: &[u8], w: usize, at: usize, values: &mut [usize]) -> ReadNumber
+    requires { ⌜ (w ≤ 9217) × (659 ≤ length (now values)) ⌝ }
+    ensures { λ r. ⌜ Row (bodyQuestions (now (input .entry)) w at) (numbersFor w) (placePast (numbersFor w) (now (input .entry)) at)
+        (numbersFor w) (numbersAt (numbersFor w) (now (input .entry)) at) (now (values .exit)) r ⌝ }
+{
+    let k = (w + 13) / 14;
+    let row = read_row(input, at, k, values);
+    let ReadNumber::Number(last, end) = row else {
+        return row;
+    };
+    if !filled(&values[..k], w) {
+        return ReadNumber::Refused(11, last);
+    }
+    if end < input.len() {
+        return ReadNumber::Refused(12, end);
+    }
+    ReadNumber::Number(k, end)
+}
+
+// k numbers from a place on, to the front of values: the place of the last one with the place after it, or the refusal.
+fn read_row(input: &[u8], start: usize, k: usize, values: &mut [usize]) -> ReadNumber
+    requires { ⌜ k ≤ length (now values) ⌝ }
+    ensures { λ r. ⌜ Row (numbersQuestions k (now (input .entry)) start) (placePast (k - 1) (now (input .entry)) start)
+        (placePast k (now (input .entry)) start) k (numbersAt k (now (input .entry)) start) (now (values .exit)) r ⌝ }
+{
+    let mut last = start;
+    let mut at = start;
+    let mut j = 0;
+    while j < k {
+        let next = numbers::read_number(input, at);
+        let ReadNumber::Number(v, past) = next else {
+            return next;
+        };
+        values[j] = v;
+        last = at;
+        at = past;
+        j += 1;
+    }
+    ReadNumber::Number(last, at)
+}
+
+// Whether the bits of the numbers past the first w are 0: they are the highest of the last number.
+fn filled(values: &[usize], w: usize) -> bool
+    requires { ⌜ (length (now values) ≡ numbersFor w) × (w ≤ 9217) × Fourteens (now values) ⌝ }
+    ensures { λ r. ⌜ r ≡ allZero (drop w (bitsIn (now (values .entry)))) ⌝ }
+{
+    let k = values.len();
+    if k == 0 {
+        return true;
+    }
+    let own = w - 14 * (k - 1);
+    values[k - 1] >> own == 0
+}
+
+// The first w bits of the numbers, over the front of bits.
+fn write_bits(values: &[usize], w: usize, bits: &mut [u8])
+    requires { ⌜ (w ≤ length (now bits)) × (numbersFor w ≤ length (now values)) × (w ≤ 9217) ⌝ }
+    ensures { λ _. ⌜ now (bits .exit) ≡ overlay (now (bits .entry)) 0 (take w (bitsIn (now (values .entry)))) ⌝ }
+{
+    let mut i = 0;
+    while i < w {
+        let v = values[i / 14];
+        let shift = i % 14;
+        bits[i] = ((v >> shift) % 2) as u8;
+        i += 1;
+    }
 }

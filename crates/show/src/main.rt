@@ -3,13 +3,13 @@
 
 fn show(sheet: &[u8]) {
     let mut text = [0u8; 16384];
-    let answer = showing::show_sheet(sheet, &mut text);
+    let answer = cmd_show::show_sheet(sheet, &mut text);
     let n = answer.count;
-    console::finish(answer, &text[..n]);
+    cmd_console::finish(answer, &text[..n]);
 }
 
 fn main() {
     let mut sheet = [0u8; 1322];
-    let n = console::read_named(1, &mut sheet);
+    let n = cmd_console::read_named(1, &mut sheet);
     show(&sheet[..n]);
 }

@@ -10,7 +10,7 @@ use lib.Seq.{length-take-le}
 use borrow.Rule.Slice.PartMut.{putMid}
 use Rattle.counts.specs.Counts.{W, up}
 use Rattle.network.specs.Network.{down}
-use Rattle.exchange.specs.Ran.{Ran}
+use Rattle.apply_exchange.specs.Ran.{Ran}
 use Rattle.apply.proofs.Halves.{Sizes, sizes, lend, rest-lent, rest-back}
 use Rattle.apply.proofs.Network.{W-two, nothing, pair, applied}
 use Prim.Native.Nat.{ℕ, _<_}
@@ -19,7 +19,7 @@ use borrow.Fn.PlainCycle.{Measures, is, falls, and}
 use Rattle.apply.proofs.run.Reads as run
 use Rattle.apply.proofs.run.Kinds as run-kinds
 use Rattle.apply.proofs.+run.Lts-run as run-lts
-use Rattle.exchange.proofs.layer.Reads as layer-reads
+use Rattle.apply_exchange.proofs.layer.Reads as layer-reads
 use Rattle.apply.proofs.+run.{statement}
 use Rattle.apply.proofs.+run.Tie.{close}
 

@@ -10,7 +10,7 @@ use borrow.Rule.Slice.PartAt.{part-to-end}
 use borrow.Rule.Slice.PartMut.{putMid}
 use Rattle.counts.specs.Counts.{W, up}
 use Rattle.network.specs.Network.{down}
-use Rattle.exchange.specs.Ran.{Ran}
+use Rattle.apply_exchange.specs.Ran.{Ran}
 use Rattle.apply.proofs.Halves.{Sizes, sizes, lend, Parts, bottom-back}
 use Rattle.apply.proofs.Network.{W-two, nothing-back, pair-back, returned}
 use Prim.Native.Nat.{ℕ, _<_}
@@ -19,7 +19,7 @@ use borrow.Fn.PlainCycle.{Measures, is, falls, and}
 use Rattle.apply.proofs.run_back.Reads as run-back
 use Rattle.apply.proofs.run_back.Kinds as run-back-kinds
 use Rattle.apply.proofs.+run_back.Lts-run_back as run-back-lts
-use Rattle.exchange.proofs.layer_back.Reads as layer-back-reads
+use Rattle.apply_exchange.proofs.layer_back.Reads as layer-back-reads
 use Rattle.apply.proofs.+run_back.{statement}
 use Rattle.apply.proofs.+run_back.Tie.{close}
 

@@ -5,7 +5,7 @@ use mathlib.Core.Path.{_≡_, refl, _∙_}
 use Prim.Native.Nat.{_-_, _≤_}
 use lib.ListN.{length, getD, length-set}
 use Rattle.steps.specs.Sweeps.{each}
-use Rattle.sweeps.proofs.Places.{each-step}
+use Rattle.control_sweeps.proofs.Places.{each-step}
 use Rattle.control.proofs.Start.{copied}
 use Rattle.control.proofs.load.Statement.{statement}
 use Rattle.control.proofs.load.Tie as tie

@@ -9,7 +9,7 @@ use Rattle.counts.specs.Counts.{up}
 use Rattle.network.specs.Wiring.{paper}
 use Rattle.steps.specs.Sequence.{rounds}
 use Rattle.steps.specs.Fold.{roundsOf}
-use Rattle.setter.specs.Walks.{state, within, Went}
+use Rattle.control_steps.specs.Walks.{state, within, Went}
 use Rattle.control.proofs.Bounds.{tidy-rounds}
 use Rattle.control.proofs.Entries.{went-none, went-then, went-as, rounds-more, length-rounds, round-more}
 use Rattle.control.proofs.rounds.Statement.{statement}

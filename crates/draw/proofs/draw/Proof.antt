@@ -5,12 +5,12 @@ use mathlib.Core.List.{List}
 use Prim.Native.Nat.{ℕ, _≤_}
 use lib.ListN.{length}
 use lib.Seq.{length-take-le}
-use Rattle.console.proofs.Streams.{made-within}
+use Rattle.cmd_console.proofs.Streams.{made-within}
 use Rattle.answers.specs.declared.Answer.{Answer}
 use Rattle.answers.specs.Questions.{firstNo}
 use Rattle.answers.specs.Outcomes.{outcome}
 use Rattle.shuffle.specs.Shuffled.{shuffled}
-use Rattle.drawing.specs.Draw.{wordsIn, orderBytes, drawQuestions, drawCall}
+use Rattle.cmd_draw.specs.Draw.{wordsIn, orderBytes, drawQuestions, drawCall}
 use borrow.Author.Needs.{needs}
 use Rattle.draw.proofs.draw.Statement.{statement}
 use Rattle.draw.proofs.draw.Tie as tie

@@ -2,7 +2,7 @@
 -- Assumes nothing.
 use mathlib.Core.Path.{sym}
 use lib.Seq.{length-take-le}
-use Rattle.report.proofs.Printing.{text-fits}
+use Rattle.cmd_settings.proofs.Printing.{text-fits}
 use borrow.Author.Needs.{needs}
 use Rattle.settings.proofs.main.Statement.{statement}
 use Rattle.settings.proofs.main.Tie as tie

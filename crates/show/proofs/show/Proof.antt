@@ -9,10 +9,10 @@ use borrow.Author.Needs.{needs}
 use Rattle.answers.specs.declared.Answer.{Answer}
 use Rattle.answers.specs.Questions.{firstNo}
 use Rattle.answers.specs.Outcomes.{outcome}
-use Rattle.codec.specs.Calls.{placesIn, readQuestions}
-use Rattle.moving.specs.Calls.{settingIn}
-use Rattle.showing.specs.Show.{settingText, showCall}
-use Rattle.console.proofs.Streams.{made-within}
+use Rattle.sheets.specs.Calls.{placesIn, readQuestions}
+use Rattle.cmd_move.specs.Calls.{settingIn}
+use Rattle.cmd_show.specs.Show.{settingText, showCall}
+use Rattle.cmd_console.proofs.Streams.{made-within}
 use Rattle.show.proofs.show.Statement.{statement}
 use Rattle.show.proofs.show.Tie as tie
 

@@ -1,0 +1,161 @@
+-- Blocks cut from bytes: a switch on the bytes of two blocks is a switch on the blocks.
+-- Assumes nothing.
+use mathlib.Core.Path.{_≡_, refl, sym, ap, _∙_}
+use mathlib.Core.Bool.{Bool, true, false, cond}
+use mathlib.Core.List.{List, [], _∷_, _++_, append-assoc, append-nil}
+use Prim.Native.Nat.{ℕ, zero, suc, _+_, _-_, _*_, _%_, _≤_, _<_}
+use native.Mathlib.Nat.{suc-mul, add-mul, one-mul, mul-le-mul, mul-le-mul-right}
+use native.Mathlib.Omega.{arith}
+use lib.Dec.{eqb}
+use lib.ListN.{length, take, drop, getD, set, length-append, length-drop, take-append-drop}
+use lib.Seq.{getD-append-seam, set-append-seam, take-suc, take-all, length-take-le, take-at, drop-at}
+use borrow.Author.Tests.{eqb-true}
+use Rattle.counts.specs.Counts.{up}
+use Rattle.network.specs.Network.{down}
+use Rattle.network.specs.Move.{switch}
+use Rattle.network.specs.Blocks.{cut}
+use Rattle.apply_exchange.specs.Bytes.{bytesSwitched}
+use Rattle.network.proofs.Blocks.{length-cut, cut-append, block-ends}
+
+nil : {A : Type 0} (x : List A) → length x ≡ 0 → x ≡ []
+nil [] e = refl
+nil (c ∷ x) e = absurd (omega arith)
+
+-- a block, and what is cut from the bytes behind it
+pub cut-block : (w r : ℕ) (x b : List ℕ) → length x ≡ w → cut w (suc r) (x ++ b) ≡ x ∷ cut w r b
+unfolding cut
+cut-block w r x b e = rw (take-at x b w e, drop-at x b w e)
+
+-- two items of a list, exchanged by a switch under bit 1
+swap-two : {A : Type 0} (d : A) (e m z : List A) (x y : A)
+    → switch d (length e) (length (e ++ (x ∷ m))) 1 (e ++ (x ∷ (m ++ (y ∷ z)))) ≡ e ++ (y ∷ (m ++ (x ∷ z)))
+unfolding switch
+swap-two d [] m z x y = λ k. getD-append-seam m y z d k ∷ set-append-seam m y z x k
+swap-two d (c ∷ e) m z x y = ap (λ l. c ∷ l) (swap-two d e m z x y)
+
+-- another bit leaves the list
+left : {A : Type 0} (d : A) (p q bit : ℕ) (xs : List A) → eqb bit 1 ≡ false → switch d p q bit xs ≡ xs
+unfolding switch
+left d p q bit xs h = rw (switch, h)
+
+last : (x : List ℕ) (j : ℕ) → length x ≡ suc j → x ≡ take j x ++ (getD x j 0 ∷ [])
+last x j e = sym (take-all (suc j) x (omega arith)) ∙ take-suc x j 0 (omega arith)
+
+-- the bytes of a block x at p and of a block y behind it
+exchanged : (n : ℕ) (a x m y z : List ℕ) (p gap : ℕ) → length x ≡ n → length y ≡ n → length a ≡ p → n + length m ≡ gap
+    → bytesSwitched p gap 1 n (a ++ (x ++ (m ++ (y ++ z)))) ≡ a ++ (y ++ (m ++ (x ++ z)))
+unfolding bytesSwitched
+exchanged zero a x m y z p gap ex ey ea eq = rw (nil x ex, nil y ey)
+exchanged (suc j) a x m y z p gap ex ey ea eq =
+    let xs : List ℕ = take j x in
+    let ys : List ℕ = take j y in
+    let c : ℕ = getD x j 0 in
+    let d : ℕ = getD y j 0 in
+    let nx : length xs ≡ j = length-take-le j x (omega arith) in
+    let ny : length ys ≡ j = length-take-le j y (omega arith) in
+    let hx : x ≡ xs ++ (c ∷ []) = last x j ex in
+    let hy : y ≡ ys ++ (d ∷ []) = last y j ey in
+    let opened : a ++ (x ++ (m ++ (y ++ z))) ≡ a ++ (xs ++ ((c ∷ m) ++ (ys ++ (d ∷ z)))) =
+    ap (λ u. a ++ (u ++ (m ++ (y ++ z)))) hx ∙ ap (λ u. a ++ ((xs ++ (c ∷ [])) ++ (m ++ (u ++ z)))) hy ∙ simp append-assoc in
+    let earlier : bytesSwitched p gap 1 j (a ++ (xs ++ ((c ∷ m) ++ (ys ++ (d ∷ z))))) ≡ a ++ (ys ++ ((c ∷ m) ++ (xs ++ (d ∷ z)))) =
+    exchanged j a xs (c ∷ m) ys (d ∷ z) p gap nx ny ea (omega arith) in
+    let between : a ++ (ys ++ ((c ∷ m) ++ (xs ++ (d ∷ z)))) ≡ (a ++ ys) ++ (c ∷ ((m ++ xs) ++ (d ∷ z))) = simp append-assoc in
+    let lower : p + j ≡ length (a ++ ys) = rw length-append (omega arith) in
+    let upper : p + j + gap ≡ length ((a ++ ys) ++ (c ∷ (m ++ xs))) = simp length-append (omega arith) in
+    let closed : (a ++ ys) ++ (d ∷ ((m ++ xs) ++ (c ∷ z))) ≡ a ++ (y ++ (m ++ (x ++ z))) =
+    sym (ap (λ u. a ++ (y ++ (m ++ (u ++ z)))) hx ∙ ap (λ u. a ++ (u ++ (m ++ ((xs ++ (c ∷ [])) ++ z)))) hy ∙ simp append-assoc) in
+    ap (λ u. switch 0 (p + j) (p + j + gap) 1 (bytesSwitched p gap 1 j u)) opened
+    ∙ ap (switch 0 (p + j) (p + j + gap) 1) (earlier ∙ between)
+    ∙ ap (λ i. switch 0 (p + j) i 1 ((a ++ ys) ++ (c ∷ ((m ++ xs) ++ (d ∷ z))))) upper
+    ∙ rw lower (swap-two 0 (a ++ ys) (m ++ xs) z c d)
+    ∙ closed
+
+kept : (a gap bit n : ℕ) (bytes : List ℕ) → eqb bit 1 ≡ false → bytesSwitched a gap bit n bytes ≡ bytes
+unfolding bytesSwitched
+kept a gap bit zero bytes h = refl
+kept a gap bit (suc j) bytes h = left 0 (a + j) (a + j + gap) bit (bytesSwitched a gap bit j bytes) h ∙ kept a gap bit j bytes h
+
+-- the blocks before place p, at p, between, at q and after
+parts : (w p g r : ℕ) (a x m y z : List ℕ) → length a ≡ p * w → length x ≡ w → length m ≡ g * w → length y ≡ w
+    → cut w (p + suc (g + suc r)) (a ++ (x ++ (m ++ (y ++ z)))) ≡ cut w p a ++ (x ∷ (cut w g m ++ (y ∷ cut w r z)))
+parts w p g r a x m y z ea ex em ey =
+    rw (cut-append w p (suc (g + suc r)) a (x ++ (m ++ (y ++ z))) ea, cut-block w (g + suc r) x (m ++ (y ++ z)) ex, cut-append w g (suc r) m (y ++ z) em, cut-block w r y z ey)
+
+-- a switch on whole blocks, where the bytes are so many parts
+parted : (w p g r : ℕ) (a x m y z : List ℕ) → length a ≡ p * w → length x ≡ w → length m ≡ g * w → length y ≡ w
+    → cut w (p + suc (g + suc r)) (bytesSwitched (p * w) (suc g * w) 1 w (a ++ (x ++ (m ++ (y ++ z)))))
+    ≡ switch [] p (suc g + p) 1 (cut w (p + suc (g + suc r)) (a ++ (x ++ (m ++ (y ++ z)))))
+parted w p g r a x m y z ea ex em ey =
+    let gap : w + length m ≡ suc g * w = omega (arith, suc-mul g w) in
+    let e = cut w p a in
+    let n = cut w g m in
+    let lower : p ≡ length e = sym (length-cut w p a) in
+    let upper : suc g + p ≡ length (e ++ (x ∷ n)) = sym (rw (length-append, length-cut, length-cut) (omega arith)) in
+    ap (cut w (p + suc (g + suc r))) (exchanged w a x m y z (p * w) (suc g * w) ex ey ea gap)
+    ∙ parts w p g r a y m x z ea ey em ex
+    ∙ sym (ap (switch [] p (suc g + p) 1) (parts w p g r a x m y z ea ex em ey) ∙ ap (λ i. switch [] p i 1 (e ++ (x ∷ (n ++ (y ∷ cut w r z))))) upper ∙ ap (λ i. switch [] i (length (e ++ (x ∷ n))) 1 (e ++ (x ∷ (n ++ (y ∷ cut w r z))))) lower ∙ swap-two [] e n (cut w r z) x y)
+
+-- a switch on the bytes of the blocks at p and k places further on is a switch on the blocks
+pub cut-switched : (w m k p bit : ℕ) (bytes : List ℕ) → 0 < k → k + p < m → m * w ≡ length bytes
+    → cut w m (bytesSwitched (p * w) (k * w) bit w bytes) ≡ switch [] p (k + p) bit (cut w m bytes)
+cut-switched w m k p bit bytes h l e = go (eqb bit 1) refl
+  where
+    g : ℕ
+    g = k - 1
+
+    r : ℕ
+    r = m - suc (k + p)
+
+    a : List ℕ
+    a = take (p * w) bytes
+
+    b : List ℕ
+    b = drop (p * w) bytes
+
+    go : (t : Bool) → eqb bit 1 ≡ t → cut w m (bytesSwitched (p * w) (k * w) bit w bytes) ≡ switch [] p (k + p) bit (cut w m bytes)
+    go false t = ap (cut w m) (kept (p * w) (k * w) bit w bytes t) ∙ sym (left [] p (k + p) bit (cut w m bytes) t)
+    go true t =
+        let one : bit ≡ 1 = eqb-true bit 1 t in
+        let before : suc g ≡ k = omega arith in
+        let all : p + suc (g + suc r) ≡ m = omega arith in
+        let long : p * w + (w + (g * w + (w + r * w))) ≡ length bytes =
+        omega (arith, e, ap (λ n. n * w) all, add-mul p (suc (g + suc r)) w, suc-mul (g + suc r) w, add-mul g (suc r) w, suc-mul r w) in
+        let x = take w b in
+        let b1 = drop w b in
+        let n = take (g * w) b1 in
+        let b2 = drop (g * w) b1 in
+        let y = take w b2 in
+        let z = drop w b2 in
+        let lb : length b ≡ w + (g * w + (w + r * w)) = rw length-drop (omega arith) in
+        let lb1 : length b1 ≡ g * w + (w + r * w) = rw length-drop (omega arith) in
+        let lb2 : length b2 ≡ w + r * w = rw length-drop (omega arith) in
+        let whole : bytes ≡ a ++ (x ++ (n ++ (y ++ z))) =
+        sym (rw (take-append-drop w b2, take-append-drop (g * w) b1, take-append-drop w b, take-append-drop (p * w) bytes)) in
+        rw (one, ← before, ← all, whole)
+        (parted w p g r a x n y z (length-take-le (p * w) bytes (omega arith)) (length-take-le w b (omega arith)) (length-take-le (g * w) b1 (omega arith)) (length-take-le w b2 (omega arith)))
+
+-- ---- where block i of a layer lies, and its partner
+
+pub half-fits : (w m : ℕ) → up m * w ≤ m * w
+half-fits w m = mul-le-mul-right w (omega arith)
+
+pub record Within (w m i long : ℕ) : Type 0 where
+  pub gap : w ≤ up m * w
+  pub ends : i * w + up m * w + w ≤ long
+
+pub within : (w m i long : ℕ) → i < down m → m * w ≡ long → Within w m i long
+within w m i long h e =
+    let one : 1 * w ≤ up m * w = mul-le-mul-right w (omega arith) in
+    record { gap = omega (arith, one-mul w); ends = omega (arith, block-ends w m (up m + i) (omega arith), add-mul (up m) i w) }
+
+-- no block lies past 1,024 x 256 bytes
+pub small : (w i : ℕ) → i ≤ 1024 → w ≤ 256 → i * w ≤ 262144
+small w i h g = mul-le-mul h g
+
+-- one block down
+pub block-down : (w i j a : ℕ) → i ≡ suc j → j < 1024 → w ≤ 256 → a ≡ i * w → (a + 262144 - w) % 262144 ≡ j * w
+block-down w i j a e h g at =
+    let below : j ≤ 1023 = omega arith in
+    let q : j * w ≤ 1023 * 256 = mul-le-mul below g in
+    let s : a ≡ j * w + w = at ∙ ap (λ n. n * w) e ∙ suc-mul j w in
+    omega arith

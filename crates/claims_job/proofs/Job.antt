@@ -1,0 +1,123 @@
+-- THE JOB'S THEOREM: what draw writes, sheet takes; what sheet writes, mix and unmix take; and the blocks go where the order
+-- says, and back.
+-- Assumes nothing.
+use mathlib.Core.Path.{_≡_, ap, _∙_}
+use mathlib.Core.List.{List, [], _∷_}
+use Prim.Native.Nat.{ℕ, _*_, _/_, _≤_}
+use native.Mathlib.Omega.{arith}
+use borrow.Author.Tests.{le-leb, eq-eqb, eqb-true}
+use lib.Dec.{eqb}
+use lib.ListN.{length, take}
+use Rattle.answers.specs.Answers.{accepted}
+use Rattle.answers.specs.Buffers.{overlay}
+use Rattle.answers.specs.Outcomes.{Outcome, outcome}
+use Rattle.answers.proofs.Questions.{passed}
+use Rattle.answers.proofs.Buffers.{overlay-read}
+use Rattle.counts.specs.Counts.{W}
+use Rattle.network.specs.Wiring.{paper}
+use Rattle.network.proofs.Paper.{paper-lawful}
+use Rattle.permutation.specs.Permutations.{IsPermutation, firstBadEntry}
+use Rattle.permutation.proofs.Permutations.{passes-permutation}
+use Rattle.permutation.proofs.Tables.{length-tabulate}
+use Rattle.shuffle.specs.Shuffled.{shuffled}
+use Rattle.shuffle.proofs.Steps.{shuffled-permutation}
+use Rattle.canonical.proofs.Only.{canonical-length}
+use Rattle.steps_canonical.proofs.Whole.{setting-canonical}
+use Rattle.sheets.specs.Sheet.{sheet}
+use Rattle.sheets.proofs.Asking.{BothPass, both-pass}
+use Rattle.sheets.proofs.Rows.{numbers-length}
+use Rattle.sheets.proofs.Writing.{bytes-most, sheet-length}
+use Rattle.cmd_order.specs.Orders.{countIn, entriesAt, orderIn, formQuestions, entryQuestions, orderQuestions, settingFor}
+use Rattle.cmd_order.proofs.Asking.{places-small}
+use Rattle.cmd_draw.specs.Draw.{wordAt, wordsIn, orderBytes, drawQuestions, drawCall}
+use Rattle.cmd_sheet.specs.Calls.{sheetFor, sheetCall}
+use Rattle.claims.specs.Carrying.{Demand2}
+use Rattle.claims.proofs.Carrying.{demand2}
+use Rattle.claims_job.specs.Job.{written, Holds, Drawn, Made, Job}
+use Rattle.claims_job.proofs.Orders.{order-holds}
+use Rattle.claims_job.proofs.Moves.{switches-few, moves, shows}
+
+-- ---- draw
+
+module _ (n : ℕ) (bytes out : List ℕ) (small : n ≤ 1024) (filled : length bytes ≡ 4 * n) where
+  word-count : length (wordsIn bytes) ≡ n
+  word-count = length-tabulate (wordAt bytes) (length bytes / 4) ∙ omega (arith, filled)
+
+  abbrev order : List ℕ
+  order = shuffled (wordsIn bytes)
+
+  permutation : IsPermutation n order
+  permutation = rw (← word-count) (shuffled-permutation (wordsIn bytes))
+
+  draw-is : drawCall n bytes out ≡ outcome (accepted (length (orderBytes order))) (overlay out 0 (orderBytes order))
+  unfolding drawCall drawQuestions
+  draw-is = rw (le-leb n 1024 small, eq-eqb (length (wordsIn bytes)) n word-count)
+
+  wrote-order : written (drawCall n bytes out) ≡ orderBytes order
+  wrote-order = rw draw-is (overlay-read out (orderBytes order))
+
+  draws : Drawn n order (drawCall n bytes out)
+  unfolding orderBytes
+  draws =
+      record {
+        permutation = permutation;
+        draw-accepted = ap (λ (o : Outcome). o .answer) draw-is;
+        order-written = rw wrote-order (order-holds n order small permutation);
+        order-fits = rw wrote-order (omega (arith, bytes-most (length order ∷ order), permutation .whole));
+      }
+
+-- ---- sheet
+
+module _ (n : ℕ) (order input out : List ℕ) (H : Holds n order input) where
+  both : BothPass (formQuestions input) (entryQuestions (orderIn input))
+  unfolding orderQuestions
+  both = both-pass (formQuestions input) (entryQuestions (orderIn input)) (H .asked)
+
+  small : n ≤ 1024
+  small = rw (H .places) at (places-small input (both .first))
+
+  held : IsPermutation n order
+  held =
+      let es = orderIn input in
+      let bad = firstBadEntry es in
+      let all = eqb-true bad (length es) (passed 6 bad (eqb bad (length es)) [] (both .second) .here) in
+      let long : length es ≡ n = numbers-length input (countIn input) (entriesAt input) ∙ H .places in
+      rw (H .entries) at (rw long at (passes-permutation es all))
+
+  D : Demand2 n order
+  D = demand2 n order small held
+
+  setting-is : settingFor order ≡ D .house .setting
+  setting-is = rw (held .whole) (D .house .only _ (setting-canonical paper-lawful n order held))
+
+  abbrev made : List ℕ
+  made = sheet n (D .house .setting)
+
+  made-is : sheetFor input ≡ made
+  made-is =
+      ap (λ m. sheet m (settingFor (orderIn input))) (H .places)
+      ∙ ap (λ es. sheet n (settingFor es)) (H .entries)
+      ∙ ap (sheet n) setting-is
+
+  sheet-is : sheetCall input out ≡ outcome (accepted (length made)) (overlay out 0 made)
+  unfolding sheetCall
+  sheet-is = rw (H .asked, made-is)
+
+  wrote : written (sheetCall input out) ≡ made
+  wrote = rw sheet-is (overlay-read out made)
+
+  makes : Made n order (sheetCall input out)
+  makes =
+      let long : length (D .house .setting) ≡ W n = canonical-length paper n order (D .house .setting) (D .house .canonical) in
+      record {
+        permutation = held;
+        house = D .house;
+        sheet-accepted = ap (λ (o : Outcome). o .answer) sheet-is;
+        sheet-written = wrote;
+        sheet-fits = rw wrote (omega (arith, sheet-length n (D .house .setting), long, switches-few n small));
+        moves = rw wrote (moves n order small D);
+        shows = λ text. rw wrote (shows n order small D held text);
+      }
+
+pub job : Job
+job = record { drawn = draws; taken = order-holds; done = makes }

@@ -1,0 +1,22 @@
+-- `drawing::put_order` meets its contract.
+-- Assumes nothing.
+use native.Mathlib.Omega.{arith}
+use Rattle.cmd_draw.proofs.Entering.{count-few, order-put}
+use borrow.Author.Needs.{needs}
+use Rattle.cmd_draw.proofs.put_order.Statement.{statement}
+use Rattle.cmd_draw.proofs.put_order.Tie as tie
+
+put-number-requires : tie.Need-put-number-requires
+put-number-requires c κs = search needs
+
+put-entries-requires : tie.Need-put-entries-requires
+put-entries-requires c κs = let s = c .before .before .before .before .before .before .before in (omega (arith, s .pre .1, s .pre .0, count-few (s .args .order .now) (s .pre .1) (c .before .before .before .put-number .ensures), c .before .before .before .put-number .kept), s .pre .2)
+
+same-length : tie.Need-same-length
+same-length c = search needs
+
+returns : tie.Need-returns
+returns c = let s = c .before .before .before .before .before .before .before .before .before .before in order-put (s .args .order .now) (s .pre .1) (c .before .before .before .before .before .before .put-number .ensures) (c .before .before .put-entries .ensures)
+
+pub put-order-spec : {M : Type 1} → statement M
+put-order-spec = tie.close (tie.spec put-number-requires put-entries-requires same-length returns)

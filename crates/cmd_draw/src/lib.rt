@@ -1,0 +1,92 @@
+// An order drawn from random bytes, as the programs read it: what the program `draw` does with what it read.
+ghost use mathlib.Core.Path.{_≡_};
+ghost use Prim.Native.Nat.{ℕ, _+_, _*_, _≤_, _<_};
+ghost use lib.ListN.{length, getD};
+ghost use Rattle.answers.specs.Buffers.{overlay};
+ghost use Rattle.answers.specs.Outcomes.{outcome};
+ghost use Rattle.permutation.specs.Permutations.{tabulate};
+ghost use Rattle.sheets.specs.Inner.{Put};
+ghost use Rattle.sheets.specs.Sheet.{numbersBytes};
+ghost use Rattle.cmd_draw.specs.Draw.{wordAt, bytesFor, orderBytes, drawCall};
+use answers::Answer;
+
+// The n words of the bytes are shuffled into an order (01: draw), whose bytes go over the front of out: 2,050 are enough for
+// each.
+pub fn draw_order(n: usize, bytes: &[u8], out: &mut [u8; 2050]) -> Answer
+    ensures { λ r. ⌜ outcome r (now (out .exit)) ≡ drawCall n (now (bytes .entry)) (now (out .entry)) ⌝ }
+{
+    if 1024 < n {
+        return answers::refuse(1, 0);
+    }
+    if bytes.len() / 4 != n {
+        return answers::refuse(16, 0);
+    }
+    let mut words = [0u32; 1024];
+    gather(bytes, n, &mut words);
+    let mut order = [0u16; 1024];
+    shuffle::shuffle(n, &words[..n], &mut order);
+    answers::accept(put_order(&order[..n], out))
+}
+
+// How many bytes are read for n words.
+pub fn bytes_for(n: usize) -> usize
+    ensures { λ r. ⌜ (r ≡ bytesFor n) × (r ≤ 4096) ⌝ }
+{
+    if n <= 1024 { 4 * n } else { 0 }
+}
+
+// The first n words of the bytes, over the front of words.
+fn gather(bytes: &[u8], n: usize, words: &mut [u32])
+    requires { ⌜ (4 * n ≤ length (now bytes)) × (n ≤ length (now words)) ⌝ }
+    ensures { λ _. ⌜ now (words .exit) ≡ overlay (now (words .entry)) 0 (tabulate (wordAt (now (bytes .entry))) n) ⌝ }
+{
+    let mut i = 0;
+    while i < n {
+        words[i] = word_at(bytes, i);
+        i += 1;
+    }
+}
+
+fn word_at(bytes: &[u8], i: usize) -> u32
+    requires { ⌜ 4 * i + 4 ≤ length (now bytes) ⌝ }
+    ensures { λ r. ⌜ r ≡ wordAt (now (bytes .entry)) i ⌝ }
+{
+    let at = 4 * i;
+    let low = wide(bytes[at]) + 256 * wide(bytes[at + 1]);
+    low + 65536 * wide(bytes[at + 2]) + 16777216 * wide(bytes[at + 3])
+}
+
+fn wide(x: u8) -> u32
+    ensures { λ r. ⌜ (r ≡ x) × (r < 256) ⌝ }
+{
+    x as u32
+}
+
+// ---- the order's bytes
+
+fn put_order(order: &[u16], out: &mut [u8]) -> usize
+    requires { ⌜ (length (now order) ≤ 1024) × (2050 ≤ length (now out)) × ((i : ℕ) → getD (now order) i 0 < 16384) ⌝ }
+    ensures { λ r. ⌜ Put (now (out .entry)) 0 (orderBytes (now (order .entry))) r (now (out .exit)) ⌝ }
+{
+    let at = sheets::put_number(out, 0, order.len());
+    put_entries(order, out, at)
+}
+
+fn put_entries(order: &[u16], out: &mut [u8], start: usize) -> usize
+    requires { ⌜ (start + 2 * length (now order) ≤ length (now out)) × ((i : ℕ) → getD (now order) i 0 < 16384) ⌝ }
+    ensures { λ r. ⌜ Put (now (out .entry)) start (numbersBytes (now (order .entry))) r (now (out .exit)) ⌝ }
+{
+    let mut at = start;
+    let mut j = 0;
+    while j < order.len() {
+        at = sheets::put_number(out, at, entry(order[j]));
+        j += 1;
+    }
+    at
+}
+
+fn entry(x: u16) -> usize
+    ensures { λ r. ⌜ r ≡ x ⌝ }
+{
+    x as usize
+}

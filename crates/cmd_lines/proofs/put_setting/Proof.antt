@@ -1,0 +1,41 @@
+-- `lines::put_setting` meets its contract.
+-- Assumes nothing.
+use mathlib.Core.List.{_++_}
+use Rattle.cmd_lines.specs.Text.{text, bitsText}
+use Rattle.cmd_lines.proofs.Lines.{room-first, room-second, room-third, put-three}
+use borrow.Author.Needs.{needs}
+use Rattle.cmd_lines.proofs.put_setting.Statement.{statement}
+use Rattle.cmd_lines.proofs.put_setting.Tie as tie
+
+slice-aggregate-put-text : tie.Need-slice-aggregate-put-text
+slice-aggregate-put-text c = search needs
+
+put-text-requires : tie.Need-put-text-requires
+put-text-requires c κs = room-first (c .before .before .before .before .args .out .now) (c .before .before .before .before .args .at) (text "setting ") (bitsText (c .before .before .before .before .args .bits .now) ++ text "\n") (c .before .before .before .before .pre)
+
+put-bits-requires : tie.Need-put-bits-requires
+put-bits-requires c κs = room-second (bitsText (c .before .before .before .before .before .before .before .before .args .bits .now)) (text "\n") (c .before .before .before .put-text .ensures) (c .before .before .before .before .before .before .before .before .pre)
+
+slice-aggregate-put-text-2 : tie.Need-slice-aggregate-put-text-2
+slice-aggregate-put-text-2 c = search needs
+
+put-text-requires-2 : tie.Need-put-text-requires-2
+put-text-requires-2 c κs = room-third (bitsText (c .before .before .before .before .before .before .before .before .before .before .before .before .before .args .bits .now)) (text "\n") (c .before .before .before .before .before .before .before .before .put-text .ensures) (c .before .before .before .before .before .before .before .before .before .before .before .before .before .pre) (c .before .before .before .before .put-bits .ensures)
+
+same-length : tie.Need-same-length
+same-length c = search needs
+
+returns : tie.Need-returns
+returns c = put-three _ _ (c .before .before .before .before .before .before .before .before .before .before .before .put-text .ensures) (c .before .before .before .before .before .before .before .before .before .before .before .before .before .before .before .before .pre) (c .before .before .before .before .before .before .before .put-bits .ensures) (c .before .before .put-text2 .ensures)
+
+pub put-setting-spec : {M : Type 1} → statement M
+put-setting-spec =
+    tie.close
+    (tie.spec
+    slice-aggregate-put-text
+    put-text-requires
+    put-bits-requires
+    slice-aggregate-put-text-2
+    put-text-requires-2
+    same-length
+    returns)

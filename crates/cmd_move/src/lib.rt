@@ -1,0 +1,35 @@
+// Blocks moved under the setting of a sheet: what the programs `mix` and `unmix` do with what they read.
+ghost use mathlib.Core.Path.{_≡_};
+ghost use Rattle.answers.specs.Outcomes.{outcome};
+ghost use Rattle.cmd_move.specs.Calls.{mixCall, unmixCall};
+use answers::Answer;
+
+// Forward (01: mix). The sheet is asked first, and then the blocks; nothing is written before.
+pub fn mix(sheet: &[u8], width: usize, blocks: &mut [u8]) -> Answer
+    ensures { λ r. ⌜ outcome r (now (blocks .exit)) ≡ mixCall (now (sheet .entry)) width (now (blocks .entry)) ⌝ }
+{
+    let mut bits = [0u8; 9217];
+    let read = sheets::read_sheet(sheet, &mut bits);
+    if read.number != 0 {
+        return read;
+    }
+    let n = read.count;
+    let w = counts::switches(n);
+    let mut log = [0u16; 27651];
+    apply::apply(n, width, blocks, &bits[..w], &mut log)
+}
+
+// Backward (01: return).
+pub fn unmix(sheet: &[u8], width: usize, blocks: &mut [u8]) -> Answer
+    ensures { λ r. ⌜ outcome r (now (blocks .exit)) ≡ unmixCall (now (sheet .entry)) width (now (blocks .entry)) ⌝ }
+{
+    let mut bits = [0u8; 9217];
+    let read = sheets::read_sheet(sheet, &mut bits);
+    if read.number != 0 {
+        return read;
+    }
+    let n = read.count;
+    let w = counts::switches(n);
+    let mut log = [0u16; 27651];
+    apply::apply_inverse(n, width, blocks, &bits[..w], &mut log)
+}

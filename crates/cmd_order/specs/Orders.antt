@@ -1,0 +1,56 @@
+-- An order as the programs read it, a count and that many entries, as sheet numbers; and its setting (01, 'Month cases').
+-- Assumes nothing: these are definitions.
+use mathlib.Core.List.{List, [], _∷_, _++_}
+use Prim.Native.Nat.{ℕ}
+use lib.Dec.{leb}
+use lib.ListN.{length}
+use Rattle.answers.specs.Questions.{Question, ask, askEach, firstNo}
+use Rattle.answers.specs.Outcomes.{Outcome, settled}
+use Rattle.network.specs.Wiring.{paper}
+use Rattle.permutation.specs.Permutations.{goodEntry}
+use Rattle.steps.specs.Sequence.{setEntries}
+use Rattle.steps.specs.Run.{settingOf}
+use Rattle.numbers.specs.Numbers.{numberQuestions, numberAt}
+use Rattle.sheets.specs.Reading.{numbersQuestions, numbersAt, placePast}
+
+-- ---- what an input holds
+
+abbrev pub countIn : List ℕ → ℕ
+countIn input = numberAt input 0 .value
+
+abbrev pub entriesAt : List ℕ → ℕ
+entriesAt input = numberAt input 0 .next
+
+abbrev pub orderIn : List ℕ → List ℕ
+orderIn input = numbersAt (countIn input) input (entriesAt input)
+
+-- the place after the last entry
+abbrev pub endOf : List ℕ → ℕ
+endOf input = placePast (countIn input) input (entriesAt input)
+
+-- ---- the questions: 8, 9, 1 for the count; 8, 9 for each entry; then 12, 6
+
+-- all but 6, which speaks of the order and not of its form
+unfoldable pub formQuestions : List ℕ → List Question
+formQuestions input =
+    numberQuestions input 0
+    ++ (ask 1 0 (leb (countIn input) 1024)
+    ∷ (numbersQuestions (countIn input) input (entriesAt input)
+    ++ (ask 12 (endOf input) (leb (length input) (endOf input))
+    ∷ [])))
+
+abbrev pub entryQuestions : List ℕ → List Question
+entryQuestions order = askEach 6 (goodEntry (length order) order) (length order) ∷ []
+
+unfoldable pub orderQuestions : List ℕ → List Question
+orderQuestions input = formQuestions input ++ entryQuestions (orderIn input)
+
+-- ---- the setting
+
+-- of an order: the one that `control_bits` leaves (01: set)
+abbrev pub settingFor : List ℕ → List ℕ
+settingFor order = settingOf paper order (setEntries paper (length order))
+
+-- of the order that an input holds, over the front of the buffer; the count is the number of places
+unfoldable pub orderSetting : List ℕ → List ℕ → Outcome
+orderSetting input buffer = settled (firstNo (orderQuestions input)) (countIn input) (settingFor (orderIn input)) buffer

@@ -1,0 +1,21 @@
+-- The same rows, from a log of mixing: each entry is its kind and the two places of its switch.
+-- Assumes nothing: these are definitions.
+use mathlib.Core.List.{List, [], _++_}
+use Prim.Native.Nat.{ℕ, zero, suc, _+_, _*_}
+use lib.ListN.{length, getD}
+use Rattle.permutation.specs.Permutations.{tabulate}
+use Rattle.cmd_lines.specs.Text.{text}
+use Rattle.cmd_picture.specs.Picture.{mark, label}
+
+abbrev pub markIn : List ℕ → List ℕ → ℕ → ℕ → ℕ
+markIn log bits place e = mark (getD log (3 * e + 1) 0) (getD log (3 * e + 2) 0) (getD bits e 0) place
+
+abbrev pub columnsIn : List ℕ → List ℕ → ℕ → List ℕ
+columnsIn log bits place = tabulate (markIn log bits place) (length bits)
+
+abbrev pub rowIn : List ℕ → List ℕ → ℕ → List ℕ
+rowIn log bits place = label place ++ (columnsIn log bits place ++ text "\n")
+
+unfoldable pub rowsIn : List ℕ → List ℕ → ℕ → List ℕ
+rowsIn log bits zero = []
+rowsIn log bits (suc place) = rowsIn log bits place ++ rowIn log bits place

@@ -1,0 +1,104 @@
+// The network of a few places under a setting, as text.
+ghost use mathlib.Core.Path.{_≡_};
+ghost use Prim.Native.Nat.{_+_, _*_, _≤_, _<_};
+ghost use lib.ListN.{length};
+ghost use Rattle.bits.specs.Bits.{Bits};
+ghost use Rattle.counts.specs.Counts.{W};
+ghost use Rattle.sheets.specs.Inner.{Put};
+ghost use Rattle.cmd_picture.specs.Picture.{mark, highDigit, label, picture};
+ghost use Rattle.cmd_picture.specs.Inner.{columnsIn, rowIn, rowsIn};
+
+// The picture, at a place of out; the answer is the place after it. Public for the crate that shows a sheet, which has read
+// the setting and knows how long the text gets. The switches are those that a mixing logs.
+pub fn put_picture(out: &mut [u8], at: usize, n: usize, bits: &[u8]) -> usize
+    requires { ⌜ (n ≤ 16) × (length (now bits) ≡ W n) × Bits (now bits)
+        × (at + length (picture n (now bits)) ≤ length (now out)) ⌝ }
+    ensures { λ r. ⌜ Put (now (out .entry)) at (picture n (now (bits .entry))) r (now (out .exit)) ⌝ }
+{
+    let mut blocks = [0u8; 16];
+    let mut log = [0u16; 147];
+    apply::apply(n, 1, &mut blocks[..n], bits, &mut log);
+    put_rows(out, at, n, bits, &log)
+}
+
+fn put_rows(out: &mut [u8], at: usize, n: usize, bits: &[u8], log: &[u16]) -> usize
+    requires { ⌜ (n ≤ 100) × (3 * length (now bits) ≤ length (now log))
+        × (at + length (rowsIn (now log) (now bits) n) ≤ length (now out)) ⌝ }
+    ensures { λ r. ⌜ Put (now (out .entry)) at (rowsIn (now (log .entry)) (now (bits .entry)) n) r (now (out .exit)) ⌝ }
+{
+    let mut end = at;
+    let mut place = 0;
+    while place < n {
+        end = put_row(out, end, place, bits, log);
+        place += 1;
+    }
+    end
+}
+
+fn put_row(out: &mut [u8], at: usize, place: usize, bits: &[u8], log: &[u16]) -> usize
+    requires { ⌜ (place < 100) × (3 * length (now bits) ≤ length (now log))
+        × (at + length (rowIn (now log) (now bits) place) ≤ length (now out)) ⌝ }
+    ensures { λ r. ⌜ Put (now (out .entry)) at (rowIn (now (log .entry)) (now (bits .entry)) place) r (now (out .exit)) ⌝ }
+{
+    let a = put_label(out, at, place);
+    let b = put_columns(out, a, place, bits, log);
+    cmd_lines::put_text(out, b, b"\n")
+}
+
+fn put_label(out: &mut [u8], at: usize, place: usize) -> usize
+    requires { ⌜ (place < 100) × (at + 3 ≤ length (now out)) ⌝ }
+    ensures { λ r. ⌜ Put (now (out .entry)) at (label place) r (now (out .exit)) ⌝ }
+{
+    let text = [tens(place), 48 + (place % 10) as u8, 32];
+    cmd_lines::put_text(out, at, &text)
+}
+
+fn tens(place: usize) -> u8
+    requires { ⌜ place < 100 ⌝ }
+    ensures { λ r. ⌜ r ≡ highDigit place ⌝ }
+{
+    if place < 10 {
+        32
+    } else {
+        48 + (place / 10) as u8
+    }
+}
+
+fn put_columns(out: &mut [u8], at: usize, place: usize, bits: &[u8], log: &[u16]) -> usize
+    requires { ⌜ (3 * length (now bits) ≤ length (now log))
+        × (at + length (columnsIn (now log) (now bits) place) ≤ length (now out)) ⌝ }
+    ensures { λ r. ⌜ Put (now (out .entry)) at (columnsIn (now (log .entry)) (now (bits .entry)) place) r (now (out .exit)) ⌝ }
+{
+    let mut e = 0;
+    while e < bits.len() {
+        let lower = wide(log[3 * e + 1]);
+        let upper = wide(log[3 * e + 2]);
+        out[at + e] = mark_at(lower, upper, bits[e], place);
+        e += 1;
+    }
+    at + e
+}
+
+fn mark_at(lower: usize, upper: usize, bit: u8, place: usize) -> u8
+    ensures { λ r. ⌜ r ≡ mark lower upper bit place ⌝ }
+{
+    if place == lower {
+        return cmd_lines::bit_character(bit);
+    }
+    if place == upper {
+        return cmd_lines::bit_character(bit);
+    }
+    if place <= lower {
+        return b'-';
+    }
+    if upper <= place {
+        return b'-';
+    }
+    b'|'
+}
+
+fn wide(x: u16) -> usize
+    ensures { λ r. ⌜ r ≡ x ⌝ }
+{
+    x as usize
+}

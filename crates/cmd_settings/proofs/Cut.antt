@@ -1,0 +1,198 @@
+-- The program reads at most 2,051 bytes, and prints what the whole input would give: of 1,024 places at most the entries end
+-- with byte 2,050, so that a longer input has a surplus byte among those read.
+-- Assumes nothing.
+use mathlib.Core.Path.{_≡_, refl, sym, ap, _∙_}
+use mathlib.Core.Bool.{Bool, true, false, _||_}
+use mathlib.Core.List.{List, [], _∷_, _++_}
+use Prim.Native.Nat.{ℕ, zero, suc, _+_, _*_, _%_, _≤_, _<_}
+use native.Mathlib.Omega.{arith}
+use native.Mathlib.Decide.{decLt}
+use lib.Dec.{ltb, leb}
+use lib.ListN.{length, take}
+use lib.Seq.{length-take-le, take-all, getD-take}
+use borrow.Author.Tests.{lt-ltb, le-leb, lt-leb, leb-true}
+use Rattle.answers.specs.Questions.{Question, ask, Verdict, allYes, noAt, firstNo}
+use Rattle.answers.proofs.Questions.{asked-yes, asked-no, asked-both, asked-first, passed}
+use Rattle.numbers.specs.Numbers.{byteAt, oneByte, ends, numberQuestions, NumberAnswer, valueAt, placeAfter, numberAt}
+use Rattle.sheets.specs.Reading.{numbersQuestions, placePast}
+use Rattle.sheets.proofs.Asking.{both-pass}
+use Rattle.cmd_order.specs.Orders.{countIn, entriesAt, orderIn, endOf, formQuestions, entryQuestions, orderQuestions}
+use Rattle.cmd_order.proofs.Asking.{places-small}
+use Rattle.cmd_settings.specs.Settings.{settingsText}
+use Rattle.cmd_settings.proofs.Printing.{text-of}
+
+-- the verdict of two sequences follows from the verdicts of each
+both : (qs rs ts us : List Question) → firstNo qs ≡ firstNo rs → firstNo ts ≡ firstNo us → firstNo (qs ++ ts) ≡ firstNo (rs ++ us)
+both qs rs ts us e f = go (firstNo qs) refl
+  where
+    go : (v : Verdict) → firstNo qs ≡ v → firstNo (qs ++ ts) ≡ firstNo (rs ++ us)
+    go allYes t = asked-both qs ts t ∙ f ∙ sym (asked-both rs us (sym e ∙ t))
+    go (noAt q p) t = asked-first qs ts t ∙ sym (asked-first rs us (sym e ∙ t))
+
+-- ---- how far numbers reach
+
+place-near : (input : List ℕ) (at : ℕ) → numberAt input at .next ≤ at + 2
+unfolding numberAt
+place-near input at = go (firstNo (numberQuestions input at)) refl
+  where
+    after : (b : Bool) → oneByte input at ≡ b → placeAfter input at ≤ at + 2
+    after true t = rw (t, placeAfter) (omega arith)
+    after false t = rw (t, placeAfter) (omega arith)
+
+    go : (v : Verdict) → firstNo (numberQuestions input at) ≡ v → numberAt input at .next ≤ at + 2
+    go allYes t = rw t (after (oneByte input at) refl)
+    go (noAt q p) t = rw t (omega arith)
+
+row-near : (input : List ℕ) (k at : ℕ) → placePast k input at ≤ at + 2 * k
+unfolding placePast
+row-near input zero at = omega arith
+row-near input (suc k) at = omega (arith, place-near input at, row-near input k (numberAt input at .next))
+
+-- ---- numbers that lie in the first m bytes
+
+-- a number and the place after it, from its bytes
+abbrev valueOf : ℕ → ℕ → ℕ
+valueOf low high = elim (ltb low 128) [ true ↦ low | false ↦ low % 128 + high * 128 ]
+
+abbrev placeOf : ℕ → ℕ → ℕ
+placeOf at low = elim (ltb low 128) [ true ↦ at + 1 | false ↦ at + 2 ]
+
+either : (b : Bool) → (b || true) ≡ true
+either true = refl
+either false = refl
+
+-- a number with two bytes before the end can only be in a bad form
+form-asked : (input : List ℕ) (at : ℕ) → at + 1 < length input
+    → firstNo (numberQuestions input at) ≡ firstNo (ask 9 at (oneByte input at || ends (byteAt input (at + 1))) ∷ [])
+unfolding numberQuestions
+form-asked input at h =
+    let third : List Question = ask 9 at (oneByte input at || ends (byteAt input (at + 1))) ∷ [] in
+    let b : Bool = oneByte input at || ltb (at + 1) (length input) in
+    asked-yes 8 (length input) (ltb at (length input)) (ask 8 (length input) b ∷ third) (lt-ltb at (length input) (omega arith))
+    ∙ asked-yes 8 (length input) b third (rw (lt-ltb (at + 1) (length input) h) (either (oneByte input at)))
+
+module _ (input : List ℕ) (m : ℕ) (long : m ≤ length input) where
+  asked-alike : (at : ℕ) → at + 1 < m → firstNo (numberQuestions (take m input) at) ≡ firstNo (numberQuestions input at)
+  asked-alike at h =
+      let ninth : List ℕ → List Question = λ bytes. ask 9 at (oneByte bytes at || ends (byteAt bytes (at + 1))) ∷ [] in
+      let same : firstNo (ninth (take m input)) ≡ firstNo (ninth input) = rw (getD-take m input at 0 (omega arith), getD-take m input (at + 1) 0 h) in
+      form-asked (take m input) at (omega (arith, length-take-le m input long)) ∙ same ∙ sym (form-asked input at (omega arith))
+
+  read-alike : (at : ℕ) → at + 1 < m → numberAt (take m input) at ≡ numberAt input at
+  unfolding numberAt
+  read-alike at h =
+      let low : byteAt (take m input) at ≡ byteAt input at = getD-take m input at 0 (omega arith) in
+      let high : byteAt (take m input) (at + 1) ≡ byteAt input (at + 1) = getD-take m input (at + 1) 0 h in
+      let value : valueAt (take m input) at ≡ valueAt input at = ap (λ b. valueOf b (byteAt (take m input) (at + 1))) low ∙ ap (valueOf (byteAt input at)) high in
+      let place : placeAfter (take m input) at ≡ placeAfter input at = ap (placeOf at) low in
+      rw (asked-alike at h, value, place)
+
+  next-alike : (at : ℕ) → at + 1 < m → numberAt (take m input) at .next ≡ numberAt input at .next
+  next-alike at h = ap (λ (a : NumberAnswer). a .next) (read-alike at h)
+
+  row-asked : (k at : ℕ) → at + 2 * k ≤ m → firstNo (numbersQuestions k (take m input) at) ≡ firstNo (numbersQuestions k input at)
+  unfolding numbersQuestions
+  row-asked zero at h = refl
+  row-asked (suc k) at h =
+      rw (next-alike at (omega arith))
+      (both (numberQuestions (take m input) at) (numberQuestions input at) _ _ (asked-alike at (omega arith))
+      (row-asked k (numberAt input at .next) (omega (arith, place-near input at))))
+
+  row-place : (k at : ℕ) → at + 2 * k ≤ m → placePast k (take m input) at ≡ placePast k input at
+  unfolding placePast
+  row-place zero at h = refl
+  row-place (suc k) at h =
+      rw (next-alike at (omega arith)) (row-place k (numberAt input at .next) (omega (arith, place-near input at)))
+
+-- ---- the questions on the form
+
+endAsked : List ℕ → List Question
+endAsked input = ask 12 (endOf input) (leb (length input) (endOf input)) ∷ []
+
+rowAsked : List ℕ → List Question
+rowAsked input = numbersQuestions (countIn input) input (entriesAt input)
+
+sizeAsked : List ℕ → List Question
+sizeAsked input = ask 1 0 (leb (countIn input) 1024) ∷ (rowAsked input ++ endAsked input)
+
+whole : (input : List ℕ) → formQuestions input ≡ numberQuestions input 0 ++ sizeAsked input
+unfolding formQuestions endAsked rowAsked sizeAsked
+whole input = refl
+
+end-near : (input : List ℕ) → countIn input ≤ 1024 → endOf input ≤ 2050
+end-near input h = omega (arith, place-near input 0, row-near input (countIn input) (entriesAt input))
+
+end-no : (input : List ℕ) → 2051 ≤ length input → countIn input ≤ 1024 → firstNo (endAsked input) ≡ noAt 12 (endOf input)
+unfolding endAsked
+end-no input g h = asked-no 12 (endOf input) (leb (length input) (endOf input)) [] (lt-leb (length input) (endOf input) (omega (arith, end-near input h)))
+
+module _ (input : List ℕ) (long : 2051 ≤ length input) where
+  cut : List ℕ
+  cut = take 2051 input
+
+  cut-long : 2051 ≤ length cut
+  unfolding cut
+  cut-long = omega (arith, length-take-le 2051 input long)
+
+  first : numberAt cut 0 ≡ numberAt input 0
+  unfolding cut
+  first = read-alike input 2051 long 0 (omega arith)
+
+  count : countIn cut ≡ countIn input
+  count = ap (λ (a : NumberAnswer). a .value) first
+
+  after : entriesAt cut ≡ entriesAt input
+  after = ap (λ (a : NumberAnswer). a .next) first
+
+  size-alike : firstNo (sizeAsked cut) ≡ firstNo (sizeAsked input)
+  unfolding sizeAsked rowAsked cut
+  size-alike = go (decLt 1024 (countIn input))
+    where
+      go : Dec (1024 < countIn input) → firstNo (sizeAsked cut) ≡ firstNo (sizeAsked input)
+      go (yes h) =
+          asked-no 1 0 (leb (countIn cut) 1024) (rowAsked cut ++ endAsked cut) (lt-leb (countIn cut) 1024 (omega (arith, count)))
+          ∙ sym (asked-no 1 0 (leb (countIn input) 1024) (rowAsked input ++ endAsked input) (lt-leb (countIn input) 1024 h))
+      go (no h) =
+          let room : entriesAt input + 2 * countIn input ≤ 2051 = omega (arith, place-near input 0) in
+          let row : firstNo (rowAsked cut) ≡ firstNo (rowAsked input) = rw (count, after) (row-asked input 2051 long (countIn input) (entriesAt input) room) in
+          let place : endOf cut ≡ endOf input = rw (count, after) (row-place input 2051 long (countIn input) (entriesAt input) room) in
+          let end : firstNo (endAsked cut) ≡ firstNo (endAsked input) =
+          end-no cut cut-long (omega (arith, count)) ∙ ap (noAt 12) place ∙ sym (end-no input long (omega arith))
+          in
+          asked-yes 1 0 (leb (countIn cut) 1024) (rowAsked cut ++ endAsked cut) (le-leb (countIn cut) 1024 (omega (arith, count)))
+          ∙ both (rowAsked cut) (rowAsked input) (endAsked cut) (endAsked input) row end
+          ∙ sym (asked-yes 1 0 (leb (countIn input) 1024) (rowAsked input ++ endAsked input) (le-leb (countIn input) 1024 (omega arith)))
+
+  form-alike : firstNo (formQuestions cut) ≡ firstNo (formQuestions input)
+  unfolding cut
+  form-alike =
+      ap firstNo (whole cut)
+      ∙ both (numberQuestions cut 0) (numberQuestions input 0) (sizeAsked cut) (sizeAsked input) (asked-alike input 2051 long 0 (omega arith)) size-alike
+      ∙ sym (ap firstNo (whole input))
+
+  surplus : firstNo (formQuestions input) ≡ allYes → ⊥
+  unfolding sizeAsked endAsked
+  surplus e =
+      let h = places-small input e in
+      let rest = both-pass (numberQuestions input 0) (sizeAsked input) (sym (ap firstNo (whole input)) ∙ e) .second in
+      let row = passed 1 0 (leb (countIn input) 1024) (rowAsked input ++ endAsked input) rest .rest in
+      let end = passed 12 (endOf input) (leb (length input) (endOf input)) [] (both-pass (rowAsked input) (endAsked input) row .second) .here in
+      omega (arith, leb-true (length input) (endOf input) end, end-near input h)
+
+  text-alike : settingsText cut ≡ settingsText input
+  unfolding orderQuestions
+  text-alike = go (firstNo (formQuestions input)) refl
+    where
+      go : (v : Verdict) → firstNo (formQuestions input) ≡ v → settingsText cut ≡ settingsText input
+      go allYes t = absurd (surplus t)
+      go (noAt q p) t =
+          text-of cut (asked-first (formQuestions cut) (entryQuestions (orderIn cut)) (form-alike ∙ t))
+          ∙ sym (text-of input (asked-first (formQuestions input) (entryQuestions (orderIn input)) t))
+
+pub settings-cut : (input : List ℕ) → settingsText (take 2051 input) ≡ settingsText input
+unfolding cut
+settings-cut input = go (decLt (length input) 2051)
+  where
+    go : Dec (length input < 2051) → settingsText (take 2051 input) ≡ settingsText input
+    go (yes h) = ap settingsText (take-all 2051 input (omega arith))
+    go (no h) = text-alike input (omega arith)

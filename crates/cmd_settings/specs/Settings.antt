@@ -1,0 +1,38 @@
+-- The text that the program `settings` prints for an input (01, 'Month cases').
+-- Assumes nothing: these are definitions.
+use mathlib.Core.List.{List, _++_}
+use Prim.Native.Nat.{ℕ}
+use lib.ListN.{length}
+use Rattle.answers.specs.Questions.{Verdict, allYes, noAt, firstNo}
+use Rattle.answers.specs.Buffers.{overlay}
+use Rattle.counts.specs.Counts.{E}
+use Rattle.cmd_order.specs.Orders.{countIn, orderIn, orderQuestions, settingFor}
+use Rattle.cmd_lines.specs.Text.{decimal, bitsText, line, refusalLine}
+
+-- ---- the text
+
+-- the number of places, the bits, the setter's entry count
+unfoldable pub settingLines : ℕ → List ℕ → ℕ → List ℕ
+settingLines n bits entries = line "places " (decimal n) ++ (line "setting " (bitsText bits) ++ line "entries " (decimal entries))
+
+abbrev pub textOf : Verdict → List ℕ → List ℕ
+textOf allYes input = settingLines (countIn input) (settingFor (orderIn input)) (E (countIn input))
+textOf (noAt q p) input = refusalLine q p
+
+-- the first question that gets a no decides
+unfoldable pub settingsText : List ℕ → List ℕ
+settingsText input = textOf (firstNo (orderQuestions input)) input
+
+-- ---- the call
+
+-- the number of bytes written, and the buffer
+pub record Written : Type 0 where
+  pub count : ℕ
+  pub buffer : List ℕ
+
+abbrev pub written : ℕ → List ℕ → Written
+written n b = record { count = n; buffer = b }
+
+-- the text over the front of the buffer
+unfoldable pub settingsCall : List ℕ → List ℕ → Written
+settingsCall input buffer = written (length (settingsText input)) (overlay buffer 0 (settingsText input))

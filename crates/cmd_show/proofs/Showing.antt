@@ -1,0 +1,130 @@
+-- The whole text, and the call.
+-- Assumes nothing.
+use mathlib.Core.Path.{_≡_, refl, sym, ap, _∙_}
+use mathlib.Core.List.{List, [], _∷_, _++_}
+use Prim.Native.Nat.{ℕ, _+_, _*_, _/_, _^_, _%_, _≤_, _<_}
+use native.Mathlib.Nat.{mod-lt}
+use native.Mathlib.Omega.{arith}
+use native.Mathlib.Decide.{decLt}
+use lib.ListN.{length, getD, take, length-append, List·getD-eq-default}
+use lib.Seq.{length-take-le}
+use Rattle.answers.specs.declared.Answer.{Answer}
+use Rattle.answers.specs.Answers.{refusal, accepted}
+use Rattle.answers.specs.Questions.{allYes, noAt, firstNo}
+use Rattle.answers.specs.Buffers.{overlay}
+use Rattle.answers.specs.Outcomes.{Outcome, outcome}
+use Rattle.answers.proofs.Buffers.{overlay-read, overlay-length}
+use Rattle.answers.proofs.Outcomes.{ends-refused, ends-accepted}
+use Rattle.bits.specs.Bits.{Bits}
+use Rattle.counts.specs.Counts.{W}
+use Rattle.network.specs.Wiring.{paper}
+use Rattle.network.specs.Blocks.{orderOf}
+use Rattle.network.proofs.Paper.{paper-lawful}
+use Rattle.network.proofs.Order.{length-order}
+use Rattle.sheets.specs.Sheet.{numbersFor}
+use Rattle.sheets.specs.Reading.{numbersAt, bitsIn}
+use Rattle.sheets.specs.Calls.{placesIn, fourteensAt, bitsFrom, readQuestions, readSheet}
+use Rattle.sheets.specs.Inner.{Put}
+use Rattle.sheets.proofs.Unpacking.{bits-length, bit-at, bits-take}
+use Rattle.sheets.proofs.Writing.{put-then, put-length}
+use Rattle.cmd_lines.specs.Text.{text, decimal, bitsText, line}
+use Rattle.cmd_lines.proofs.Decimal.{digits-few}
+use Rattle.cmd_lines.proofs.Lines.{put-kept, bits-within}
+use Rattle.cmd_move.specs.Calls.{settingIn}
+use Rattle.cmd_move.proofs.Moving.{Stopped, read-stopped, read-passed, read-places, read-few, read-setting, setting-length}
+use Rattle.cmd_show.specs.Show.{orderText, pictured, settingText, showCall}
+
+-- ---- the lines
+
+-- 7 + 4 + 1 bytes
+pub places-line : (n : ℕ) → n ≤ 1024 → length (line "places " (decimal n)) ≤ 12
+places-line n h = simp length-append (omega (arith, digits-few 3 n (let z : n < 10000 = omega arith in z)))
+
+-- 8 + 9,217 + 1
+pub setting-line : (bits : List ℕ) → length bits ≤ 9217 → length (line "setting " (bitsText bits)) ≤ 9226
+setting-line bits h = simp length-append (omega (arith, bits-within bits 9217 (omega arith) h))
+
+-- the order that stands at the front
+pub order-front : (n : ℕ) (bits before : List ℕ) {order : List ℕ} → order ≡ overlay before 0 (orderOf paper n bits) → take n order ≡ orderOf paper n bits
+order-front n bits before e =
+    let o = orderOf paper n bits in
+    rw e (ap (λ m. take m (overlay before 0 o)) (sym (length-order paper-lawful n bits)) ∙ overlay-read before o)
+
+pub order-room : (n : ℕ) (bits before : List ℕ) {order : List ℕ} → n ≤ length before → order ≡ overlay before 0 (orderOf paper n bits) → n ≤ length order
+order-room n bits before h e =
+    omega (arith, ap length e, overlay-length before 0 (orderOf paper n bits) (omega (arith, length-order paper-lawful n bits)))
+
+pub order-line :
+    {a : List ℕ} {at : ℕ} {r : ℕ} {b : List ℕ} {q : ℕ} {c : List ℕ} {t : ℕ} {d : List ℕ} (order : List ℕ)
+    → at + 8 + 6 * length order ≤ length a
+    → Put a at (text "order") r b
+    → Put b r (orderText order) q c × (q ≤ r + 2 + 6 * length order)
+    → Put c q (text "\n") t d
+    → Put a at (line "order" (orderText order)) t d × (t ≤ at + 8 + 6 * length order)
+order-line {a} {at} order h P Q R =
+    let room : at + length (text "order") ≤ length a = omega arith in
+    (put-then room P (put-then (omega (arith, P .place, Q .0 .place, Q .1, put-kept room P)) (Q .0) R), omega (arith, P .place, Q .1, R .place))
+
+-- the order's line, and behind it the picture
+pub rest-put :
+    {a : List ℕ} {at : ℕ} {r : ℕ} {b : List ℕ} {q : ℕ} {c : List ℕ} (n : ℕ) (bits order : List ℕ)
+    → order ≡ orderOf paper n bits
+    → at + 8 + 6 * length order ≤ length a
+    → Put a at (line "order" (orderText order)) r b × (r ≤ at + 8 + 6 * length order)
+    → Put b r (pictured n bits) q c
+    → Put a at (line "order" (orderText (orderOf paper n bits)) ++ pictured n bits) q c
+rest-put n bits order e h P Q = rw (← e) (put-then (omega (arith, P .0 .place, P .1)) (P .0) Q)
+
+pub setting-put :
+    {a : List ℕ} {r : ℕ} {b : List ℕ} {q : ℕ} {c : List ℕ} {t : ℕ} {d : List ℕ} (n : ℕ) (bits : List ℕ)
+    → n ≤ 1024
+    → length bits ≤ 9217
+    → 16384 ≤ length a
+    → Put a 0 (line "places " (decimal n)) r b
+    → Put b r (line "setting " (bitsText bits)) q c
+    → Put c q (line "order" (orderText (orderOf paper n bits)) ++ pictured n bits) t d
+    → Put a 0 (settingText n bits) t d
+unfolding settingText
+setting-put {a} n bits h g l P Q R =
+    let room : 0 + length (line "places " (decimal n)) ≤ length a = omega (arith, places-line n h) in
+    put-then room P (put-then (omega (arith, P .place, places-line n h, setting-line bits g, put-kept room P)) Q R)
+
+-- ---- the call
+
+-- the bits in numbers are bits, and so is the setting in a sheet
+are-bits : (vs : List ℕ) → Bits (bitsIn vs)
+unfolding Bits
+are-bits vs i = elim (decLt i (14 * length vs)) [
+  | yes l ↦ rw (bit-at vs i l) (mod-lt _ (omega arith))
+  | no l ↦ rw (List·getD-eq-default (bitsIn vs) 0 {n = i} (omega (arith, bits-length vs))) (omega arith)
+]
+
+setting-bits : (sheet : List ℕ) → Bits (settingIn sheet)
+unfolding settingIn bitsFrom
+setting-bits sheet = bits-take (W (placesIn sheet)) _ (are-bits (numbersAt (numbersFor (W (placesIn sheet))) sheet (fourteensAt sheet)))
+
+module _ (sheet before out : List ℕ) (room : length before ≡ 9217) {read : Answer} {bits : List ℕ} (e : outcome read bits ≡ readSheet sheet before) where
+  pub show-refused : (read .number ≡ 0 → ⊥) → outcome read out ≡ showCall sheet out
+  unfolding showCall readSheet
+  show-refused h =
+      let s = read-stopped sheet before e h in
+      let first : firstNo (readQuestions sheet 9217) ≡ noAt (s .question) (s .place) = rw (← room) (s .asked) in
+      let told : read ≡ refusal (s .question) (s .place) = ap (λ (o : Outcome). o .answer) e ∙ rw (s .asked) in
+      ends-refused (firstNo (readQuestions sheet 9217)) _ _ out first told refl
+
+  module _ (z : read .number ≡ 0) {w : ℕ} (c : w ≡ W (read .count)) where
+    pub read-count : length (take w bits) ≡ W (read .count)
+    read-count = ap length (read-setting sheet before e z c) ∙ setting-length sheet ∙ sym (ap W (read-places sheet before e z))
+
+    pub read-bits : Bits (take w bits)
+    read-bits = rw (read-setting sheet before e z c) (setting-bits sheet)
+
+    pub show-done : {r : ℕ} {after : List ℕ} {a : Answer} → Put out 0 (settingText (read .count) (take w bits)) r after → a ≡ accepted r
+        → outcome a after ≡ showCall sheet out
+    unfolding showCall
+    show-done P t =
+        let same : settingText (read .count) (take w bits) ≡ settingText (placesIn sheet) (settingIn sheet) =
+        rw (read-setting sheet before e z c, read-places sheet before e z)
+        in
+        ends-accepted (firstNo (readQuestions sheet 9217)) _ _ out (rw (← room) (read-passed sheet before e z))
+        (t ∙ ap accepted (put-length P ∙ ap length same)) (P .buffer ∙ ap (overlay out 0) same)

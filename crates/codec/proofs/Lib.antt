@@ -1,7 +1,0 @@
-pub mod Unpacking
-pub mod Rows
-pub mod Writing
-pub mod Asking
-pub mod Calls
-pub mod Round
-pub mod Cases

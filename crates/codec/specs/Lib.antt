@@ -1,4 +1,0 @@
-pub mod Sheet
-pub mod Reading
-pub mod Calls
-pub mod Inner

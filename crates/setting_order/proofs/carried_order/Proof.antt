@@ -1,0 +1,61 @@
+-- `carried::carried_order` meets its contract.
+-- Assumes nothing.
+use mathlib.Core.Path.{sym, ap, _∙_}
+use native.Mathlib.Omega.{arith}
+use lib.ListN.{replicate}
+use lib.Seq.{length-take-le}
+use Rattle.answers.specs.Buffers.{overlay}
+use borrow.Author.Needs.{needs}
+use Rattle.setting_order.proofs.Carrying.{array-kept, carried-in}
+use Rattle.setting_order.proofs.carried_order.Statement.{statement}
+use Rattle.setting_order.proofs.carried_order.Tie as tie
+
+slice-aggregate-number : tie.Need-slice-aggregate-number
+slice-aggregate-number c = search needs
+
+number-requires : tie.Need-number-requires
+number-requires c κs = search needs
+
+mul-end : tie.Need-mul-end
+mul-end c = search needs
+
+array-borrow-prefix-blocks : tie.Need-array-borrow-prefix-blocks
+array-borrow-prefix-blocks c = omega (arith, c .before .number .kept, c .before .before .before .before .pre .0)
+
+slice-aggregate-apply-inverse : tie.Need-slice-aggregate-apply-inverse
+slice-aggregate-apply-inverse c = sym (length-take-le _ _ (omega (arith, c .before .before .number .kept, c .before .before .before .before .before .pre .0)))
+
+slice-aggregate-apply-inverse-2 : tie.Need-slice-aggregate-apply-inverse-2
+slice-aggregate-apply-inverse-2 c = search needs
+
+apply-inverse-requires : tie.Need-apply-inverse-requires
+apply-inverse-requires c κs = search needs
+
+slice-aggregate-gather : tie.Need-slice-aggregate-gather
+slice-aggregate-gather c = sym (array-kept (c .before .before .before .before .before .before .before .before .before .before .args .n) (c .before .before .before .before .before .before .before .number .last .1 .0) (c .before .before .before .before .before .before .before .before .before .before .pre .0) (c .before .before .before .before .before .before .before .number .kept .1 .0) (c .before .before .before .apply-inverse .last .1 .1 .0) (c .before .before .before .apply-inverse .kept .1 .1 .0))
+
+gather-requires : tie.Need-gather-requires
+gather-requires c κs = (omega (arith, c .before .before .before .before .before .before .before .before .before .before .before .pre .0, array-kept (c .before .before .before .before .before .before .before .before .before .before .before .args .n) (c .before .before .before .before .before .before .before .before .number .last .1 .0) (c .before .before .before .before .before .before .before .before .before .before .before .pre .0) (c .before .before .before .before .before .before .before .before .number .kept .1 .0) (c .before .before .before .before .apply-inverse .last .1 .1 .0) (c .before .before .before .before .apply-inverse .kept .1 .1 .0)), omega (arith, c .before .before .before .before .before .before .before .before .before .before .before .pre .0))
+
+returns : tie.Need-returns
+returns c =
+    let s = c .before .before .before .before .before .before .before .before .before .before .before .before in
+    c .gather .ensures
+    ∙ ap (overlay (s .args .order .now) 0)
+    (carried-in (s .args .n) (c .before .before .before .before .before .before .before .before .before .number .last .1 .0) (s .pre .0) (c .before .before .before .before .before .before .before .before .before .number .kept .1 .0) (s .args .bits .now) (replicate 27651 0) (s .pre .1) (s .pre .2) (s .pre .3)
+    (c .before .before .before .before .before .before .before .before .before .number .ensures) (search needs) (c .before .before .before .before .before .apply-inverse .ensures))
+
+pub carried-order-spec : {M : Type 1} → statement M
+carried-order-spec =
+    tie.close
+    (tie.spec
+    slice-aggregate-number
+    number-requires
+    mul-end
+    array-borrow-prefix-blocks
+    slice-aggregate-apply-inverse
+    slice-aggregate-apply-inverse-2
+    apply-inverse-requires
+    slice-aggregate-gather
+    gather-requires
+    returns)

@@ -1,0 +1,67 @@
+// The order that a setting carries: the blocks 0, 1, .. are returned under it, and then block i names the place to which the
+// block at i goes.
+ghost use mathlib.Core.Path.{_≡_};
+ghost use Prim.Native.Nat.{_+_, _*_, _≤_};
+ghost use lib.ListN.{length};
+ghost use Rattle.answers.specs.Buffers.{overlay};
+ghost use Rattle.bits.specs.Bits.{Bits};
+ghost use Rattle.counts.specs.Counts.{W};
+ghost use Rattle.network.specs.Wiring.{paper};
+ghost use Rattle.network.specs.Blocks.{orderOf};
+ghost use Rattle.permutation.specs.Permutations.{tabulate};
+ghost use Rattle.setting_order.specs.Inner.{numberIn, Numbered};
+
+// The order over the front of `order`. Public for the crate that shows a sheet, which has read the setting and so can show
+// what this `requires`: no question of the return gets a no.
+pub fn carried_order(n: usize, bits: &[u8], order: &mut [u16; 1024])
+    requires { ⌜ (n ≤ 1024) × (W n ≤ 9217) × (length (now bits) ≡ W n) × Bits (now bits) ⌝ }
+    ensures { λ _. ⌜ now (order .exit) ≡ overlay (now (order .entry)) 0 (orderOf paper n (now (bits .entry))) ⌝ }
+{
+    let mut blocks = [0u8; 2048];
+    number(n, &mut blocks);
+    let mut log = [0u16; 27651];
+    let end = n * 2;
+    apply::apply_inverse(n, 2, &mut blocks[..end], bits, &mut log);
+    gather(n, &blocks, order);
+}
+
+// Each block holds its own place.
+fn number(n: usize, blocks: &mut [u8])
+    requires { ⌜ (n ≤ 1024) × (2 * n ≤ length (now blocks)) ⌝ }
+    ensures { λ _. ⌜ Numbered n (now (blocks .exit)) ⌝ }
+{
+    let mut i = 0;
+    while i < n {
+        let at = 2 * i;
+        let second = at + 1;
+        blocks[at] = (i % 256) as u8;
+        blocks[second] = (i / 256) as u8;
+        i += 1;
+    }
+}
+
+// The numbers in the blocks.
+fn gather(n: usize, blocks: &[u8], order: &mut [u16])
+    requires { ⌜ (2 * n ≤ length (now blocks)) × (n ≤ length (now order)) ⌝ }
+    ensures { λ _. ⌜ now (order .exit) ≡ overlay (now (order .entry)) 0 (tabulate (numberIn (now (blocks .entry))) n) ⌝ }
+{
+    let mut i = 0;
+    while i < n {
+        order[i] = number_in(blocks, i);
+        i += 1;
+    }
+}
+
+fn number_in(blocks: &[u8], i: usize) -> u16
+    requires { ⌜ 2 * i + 2 ≤ length (now blocks) ⌝ }
+    ensures { λ r. ⌜ r ≡ numberIn (now (blocks .entry)) i ⌝ }
+{
+    let at = 2 * i;
+    wide(blocks[at]) + 256 * wide(blocks[at + 1])
+}
+
+fn wide(x: u8) -> u16
+    ensures { λ r. ⌜ (r ≡ x) × (r ≤ 255) ⌝ }
+{
+    x as u16
+}

@@ -1,0 +1,68 @@
+-- `codec::write_bits` meets its contract.
+-- Assumes nothing.
+use borrow.Author.Needs.{needs}
+use native.Mathlib.Omega.{arith}
+use mathlib.Core.Path.{sym}
+use Prim.Native.Nat.{_-_}
+use Rattle.sheets.specs.Reading.{bitsIn}
+use Rattle.sheets.proofs.Unpacking.{bits-length, bit-at}
+use Rattle.sheets.proofs.Writing.{Over, over-starts, over-more, over-ends}
+use Rattle.sheets.proofs.write_bits.Statement.{statement}
+use Rattle.sheets.proofs.write_bits.Tie as tie
+
+abbrev Inv-loop : tie.InvT-loop
+Inv-loop values w bits₀ i₀ bits i = Over (bitsIn values) bits₀ bits w i
+
+abbrev μ-loop : tie.MeasureT-loop
+μ-loop values w bits₀ i₀ bits i = w - i
+
+loop-holds : tie.Need-loop-holds Inv-loop μ-loop
+loop-holds c = over-starts _ _ _
+
+mul-v : tie.Need-mul-v Inv-loop μ-loop
+mul-v c = search needs
+
+shared-slice-read-v : tie.Need-shared-slice-read-v Inv-loop μ-loop
+shared-slice-read-v c = search needs
+
+shr-bits : tie.Need-shr-bits Inv-loop μ-loop
+shr-bits c = search needs
+
+cast-bits : tie.Need-cast-bits Inv-loop μ-loop
+cast-bits c = search needs
+
+slice-write-bits : tie.Need-slice-write-bits Inv-loop μ-loop
+slice-write-bits c = search needs
+
+add-i : tie.Need-add-i Inv-loop μ-loop
+add-i c = search needs
+
+loop-less : tie.Need-loop-less Inv-loop μ-loop
+loop-less c = search needs
+
+loop-again : tie.Need-loop-again Inv-loop μ-loop
+loop-again c = over-more _ _ _ _ _ _ (omega arith) (omega (arith, bits-length (c .before .before .before .args .values .now))) (omega arith) (sym (bit-at _ _ (omega arith))) (c .before .before .loop .inv)
+
+same-length : tie.Need-same-length Inv-loop μ-loop
+same-length c = search needs
+
+returns : tie.Need-returns Inv-loop μ-loop
+returns c = over-ends _ _ _ _ _ (c .loop-test .left) (c .before .loop .inv)
+
+pub write-bits-spec : {M : Type 1} → statement M
+write-bits-spec =
+    tie.close
+    (tie.spec
+    Inv-loop
+    μ-loop
+    loop-holds
+    mul-v
+    shared-slice-read-v
+    shr-bits
+    cast-bits
+    slice-write-bits
+    add-i
+    loop-less
+    loop-again
+    same-length
+    returns)
