@@ -115,7 +115,13 @@ pub fn step3(
     let k = (m + 1) / 2;
     let pair = control_sweeps::pair_of(k as u16, w.s);
     let bit = control_sweeps::below(w.s, k as u16);
-    control_sweeps::store_at(bits, w.b, k, control_sweeps::switch_of(k as u16, pair), bit as u8);
+    control_sweeps::store_at(
+        bits,
+        w.b,
+        k,
+        control_sweeps::switch_of(k as u16, pair),
+        bit as u8,
+    );
     let low = control_sweeps::mark_pair(marks, k, pair);
     control_sweeps::write_entry(log, w.e, 3, o, m);
     turn(k as u16, low, w)
