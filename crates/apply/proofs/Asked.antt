@@ -13,7 +13,7 @@ use Rattle.answers.specs.Answers.{refusal, accepted}
 use Rattle.answers.specs.Questions.{Verdict, allYes, noAt, firstNo, firstBad, askEach}
 use Rattle.answers.specs.Outcomes.{answerOf}
 use Rattle.answers.proofs.Questions.{each-yes}
-use Rattle.answers.proofs.Outcomes.{accepted-when}
+use Rattle.answers.proofs.Outcomes.{Numbered, accepted-when}
 use Rattle.bits.specs.Bits.{isBit, Bits}
 use Rattle.bits.proofs.Bytes.{bits-all, all-bits}
 use Rattle.counts.specs.Counts.{W}
@@ -116,9 +116,13 @@ pub fit-passes : {n width filled : ℕ} {bits : List ℕ} {room : ℕ} → Fits 
 fit-passes {n} {width} {filled} {bits} {room} f =
     yes-all n width filled bits room (f .places) (f .low) (f .high) (f .whole) (f .count) (f .words) (all-bits bits (f .settings))
 
--- number 0 is given only where every question got a yes
-pub asked-well : (n width filled : ℕ) (bits : List ℕ) (room count : ℕ) → answerOf (firstNo (applyQuestions n width filled bits room)) count .number ≡ 0
-    → firstNo (applyQuestions n width filled bits room) ≡ allYes
+pub numbered : (n width filled : ℕ) (bits : List ℕ) (room : ℕ) → Numbered (applyQuestions n width filled bits room)
 unfolding applyQuestions
+numbered n width filled bits room = (omega arith, (omega arith, (omega arith, (omega arith, (omega arith, (omega arith, tt))))))
+
+-- number 0 is given only where every question got a yes
+pub asked-well : (n width filled : ℕ) (bits : List ℕ) (room count : ℕ)
+    → answerOf (firstNo (applyQuestions n width filled bits room)) count .number ≡ 0
+    → firstNo (applyQuestions n width filled bits room) ≡ allYes
 asked-well n width filled bits room count e =
-    accepted-when (applyQuestions n width filled bits room) count (omega arith, (omega arith, (omega arith, (omega arith, (omega arith, (omega arith, tt)))))) e
+    accepted-when (applyQuestions n width filled bits room) count (numbered n width filled bits room) e

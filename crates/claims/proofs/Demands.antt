@@ -4,116 +4,147 @@ use mathlib.Core.Path.{_≡_, refl, sym, ap, _∙_}
 use mathlib.Core.List.{List, []}
 use Prim.Native.Nat.{ℕ, _*_}
 use native.Mathlib.Omega.{arith}
-use lib.ListN.{length, take}
+use lib.ListN.{length}
 use Rattle.answers.specs.declared.Answer.{Answer}
 use Rattle.answers.specs.Questions.{Verdict, noAt, allYes, firstNo}
 use Rattle.answers.specs.Buffers.{overlay}
 use Rattle.answers.specs.Outcomes.{Logged, settledLogged}
 use Rattle.answers.proofs.Outcomes.{Numbered, accepted-when, logged-refused}
-use Rattle.counts.specs.Counts.{W, E}
+use Rattle.counts.specs.Counts.{W}
 use Rattle.network.specs.Wiring.{paper}
-use Rattle.network.specs.Network.{network}
 use Rattle.network.specs.Blocks.{cut, bytesOf, moved, movedBack}
-use Rattle.network.specs.Log.{Entry, words, entries, applyEntries, inverseEntries, runApply, runInverse}
+use Rattle.network.specs.Log.{Entry, words, entries}
 use Rattle.network.proofs.Shape.{entries-words, length-applyEntries, length-inverseEntries}
 use Rattle.network.proofs.Paper.{paper-lawful}
 use Rattle.network.proofs.Blocks.{length-cut}
 use Rattle.network.proofs.Run.{run-apply}
 use Rattle.network.proofs.RunBack.{run-inverse}
 use Rattle.network.proofs.Moved.{length-moved, length-movedBack}
-use Rattle.canonical.specs.Rule.{Canonical}
 use Rattle.canonical.proofs.Only.{canonical-length}
 use Rattle.steps.specs.Sequence.{setEntries}
 use Rattle.steps.specs.Run.{settingOf}
 use Rattle.steps.proofs.Lengths.{length-setEntries}
 use Rattle.steps_canonical.proofs.Whole.{setting-canonical}
-use Rattle.apply.specs.Calls.{applyCall, inverseCall}
+use Rattle.apply.specs.Calls.{applyQuestions, applyCall, inverseCall}
+use Rattle.apply.proofs.Asked.{passes, numbered}
 use Rattle.control.specs.Calls.{setCall}
-use Rattle.claims.specs.Calls.{Call, Kind, setting, mixing, returning, set, mix, return, kindOf, placesOf, questionsOf, outcomeOf, lentBuffer, lentLog, Accepted, countOf, written, due, runOf, Right}
+use Rattle.claims.specs.Calls.{
+  Direction,
+  mixing,
+  returning,
+  Call,
+  set,
+  move,
+  moving,
+  entriesDue,
+  countDue,
+  moveCall,
+  runMove,
+  movedBy,
+  described,
+  outcomeOf,
+  Accepted,
+  countOf,
+  due,
+  written,
+}
 use Rattle.claims.specs.Demands.{Demand1, Logs, Demand3}
-use Rattle.claims.proofs.Asked.{set-asked, set-numbered, apply-asked, apply-numbered}
+use Rattle.claims.proofs.Asked.{set-asked, set-numbered}
 use Rattle.claims.proofs.Settled.{Left, left}
 
--- ---- what every call is: its questions, and a result and entries that it leaves where they all get a yes
+-- ---- all that the demands need of a call
 
--- by kind and n alone
-abbrev pub entriesDue : Kind → ℕ → List Entry
-entriesDue setting n = setEntries paper n
-entriesDue mixing n = applyEntries paper n
-entriesDue returning n = inverseEntries paper n
-
-abbrev countDue : Kind → ℕ → ℕ
-countDue setting n = E n
-countDue mixing n = W n
-countDue returning n = W n
+abbrev pub asked : Call → Verdict
+asked c = firstNo (described c .questions)
 
 abbrev pub resultOf : Call → List ℕ
 resultOf (set order bits log) = settingOf paper order (setEntries paper (length order))
-resultOf (mix n width blocks bits log) = moved paper n width bits blocks
-resultOf (return n width blocks bits log) = movedBack paper n width bits blocks
+resultOf (move d n width blocks bits log) = movedBy d n width bits blocks
 
 abbrev pub dueEntries : Call → List Entry
-dueEntries c = entriesDue (kindOf c) (placesOf c)
+dueEntries c = entriesDue (described c .kind) (described c .places)
 
-same-outcome : (c : Call)
-    → outcomeOf c ≡ settledLogged (firstNo (questionsOf c)) (due c) (resultOf c) (lentBuffer c) (words (dueEntries c)) (lentLog c)
-unfolding setCall applyCall inverseCall
-same-outcome (set order bits log) = refl
-same-outcome (mix n width blocks bits log) = refl
-same-outcome (return n width blocks bits log) = refl
+record Laws (c : Call) : Type 0 where
+  settles : outcomeOf c
+      ≡ settledLogged (asked c) (due c) (resultOf c) (described c .buffer) (words (dueEntries c)) (described c .log)
+  all-numbered : Numbered (described c .questions)
+  counted : length (dueEntries c) ≡ due c
+  runs : described c .run (dueEntries c) ≡ resultOf c
+  right : asked c ≡ allYes → described c .Right (resultOf c)
+  fills : asked c ≡ allYes → length (resultOf c) ≡ length (described c .buffer)
 
-due-count : (c : Call) → due c ≡ countDue (kindOf c) (placesOf c)
-due-count (set order bits log) = refl
-due-count (mix n width blocks bits log) = refl
-due-count (return n width blocks bits log) = refl
+module _ (order bits log : List ℕ) where
+  set-right : asked (set order bits log) ≡ allYes → described (set order bits log) .Right (resultOf (set order bits log))
+  set-right e = setting-canonical paper-lawful (length order) order (set-asked order bits log e .permutation)
 
-entries-count : (k : Kind) (n : ℕ) → length (entriesDue k n) ≡ countDue k n
-entries-count setting n = length-setEntries paper n
-entries-count mixing n = length-applyEntries paper n
-entries-count returning n = length-inverseEntries paper n
+  set-laws : Laws (set order bits log)
+  unfolding setCall
+  set-laws =
+      let n = length order in
+      record {
+        settles = refl;
+        all-numbered = set-numbered order bits log;
+        counted = length-setEntries paper n;
+        runs = refl;
+        right = set-right;
+        fills = λ e.
+            canonical-length paper n order (settingOf paper order (setEntries paper n)) (set-right e)
+            ∙ sym (set-asked order bits log e .bit-count);
+      }
 
-all-numbered : (c : Call) → Numbered (questionsOf c)
-all-numbered (set order bits log) = set-numbered order bits log
-all-numbered (mix n width blocks bits log) = apply-numbered n width (length blocks) bits (length log)
-all-numbered (return n width blocks bits log) = apply-numbered n width (length blocks) bits (length log)
+module _ (n width : ℕ) (blocks bits log : List ℕ) where
+  move-settles : (d : Direction) → moveCall d n width blocks bits log
+      ≡ settledLogged (firstNo (applyQuestions n width (length blocks) bits (length log))) (W n) (movedBy d n width bits blocks) blocks
+          (words (entriesDue (moving d) n)) log
+  unfolding applyCall inverseCall
+  move-settles mixing = refl
+  move-settles returning = refl
 
-pub result-right : (c : Call) → firstNo (questionsOf c) ≡ allYes → Right c (resultOf c)
-result-right (set order bits log) e =
-    setting-canonical paper-lawful (length order) order (set-asked order bits log e .permutation)
-result-right (mix n width blocks bits log) e = refl
-result-right (return n width blocks bits log) e = refl
+  move-counted : (d : Direction) → length (entriesDue (moving d) n) ≡ W n
+  move-counted mixing = length-applyEntries paper n
+  move-counted returning = length-inverseEntries paper n
 
-result-length : (c : Call) → firstNo (questionsOf c) ≡ allYes → length (resultOf c) ≡ length (lentBuffer c)
-result-length (set order bits log) e =
-    canonical-length paper (length order) order (settingOf paper order (setEntries paper (length order))) (result-right (set order bits log) e)
-    ∙ sym (set-asked order bits log e .bit-count)
-result-length (mix n width blocks bits log) e =
-    let fill = apply-asked n width (length blocks) bits (length log) e .blocks-fill in
-    length-moved paper-lawful n width bits blocks fill ∙ sym fill
-result-length (return n width blocks bits log) e =
-    let fill = apply-asked n width (length blocks) bits (length log) e .blocks-fill in
-    length-movedBack paper-lawful n width bits blocks fill ∙ sym fill
+  move-runs : (d : Direction)
+      → bytesOf (runMove d n bits (entriesDue (moving d) n) (cut width n blocks)) ≡ movedBy d n width bits blocks
+  unfolding moved movedBack
+  move-runs mixing = ap bytesOf (run-apply [] paper-lawful n bits (cut width n blocks) (length-cut width n blocks))
+  move-runs returning = ap bytesOf (run-inverse [] paper-lawful n bits (cut width n blocks) (length-cut width n blocks))
 
-result-runs : (c : Call) → runOf c (words (dueEntries c)) ≡ resultOf c
-unfolding moved movedBack
-result-runs (set order bits log) = rw (entries-words (setEntries paper (length order)))
-result-runs (mix n width blocks bits log) =
-    rw (entries-words (applyEntries paper n))
-    (ap bytesOf (run-apply [] paper-lawful n bits (cut width n blocks) (length-cut width n blocks)))
-result-runs (return n width blocks bits log) =
-    rw (entries-words (inverseEntries paper n))
-    (ap bytesOf (run-inverse [] paper-lawful n bits (cut width n blocks) (length-cut width n blocks)))
+  pub length-movedBy : (d : Direction) → length blocks ≡ n * width → length (movedBy d n width bits blocks) ≡ n * width
+  length-movedBy mixing fill = length-moved paper-lawful n width bits blocks fill
+  length-movedBy returning fill = length-movedBack paper-lawful n width bits blocks fill
+
+  move-laws : (d : Direction) → Laws (move d n width blocks bits log)
+  move-laws d =
+      record {
+        settles = move-settles d;
+        all-numbered = numbered n width (length blocks) bits (length log);
+        counted = move-counted d;
+        runs = move-runs d;
+        right = λ e. refl;
+        fills = λ e.
+            let fill = passes n width (length blocks) bits (length log) e .whole in
+            length-movedBy d fill ∙ sym fill;
+      }
+
+laws : (c : Call) → Laws c
+laws (set order bits log) = set-laws order bits log
+laws (move d n width blocks bits log) = move-laws n width blocks bits log d
 
 -- ---- demand 1
 
-pub accepted-passes : (c : Call) → Accepted c → firstNo (questionsOf c) ≡ allYes
-accepted-passes c e = accepted-when (questionsOf c) (due c) (all-numbered c) (sym (ap (λ (o : Logged). o .answer .number) (same-outcome c)) ∙ e)
+pub accepted-passes : (c : Call) → Accepted c → asked c ≡ allYes
+accepted-passes c e =
+    accepted-when (described c .questions) (due c) (laws c .all-numbered)
+    (sym (ap (λ (o : Logged). o .answer .number) (laws c .settles)) ∙ e)
 
-pub leaves : (c : Call) → firstNo (questionsOf c) ≡ allYes → Left (due c) (resultOf c) (dueEntries c) (lentLog c) (outcomeOf c)
+pub leaves : (c : Call) → asked c ≡ allYes → Left (due c) (resultOf c) (dueEntries c) (described c .log) (outcomeOf c)
 leaves c e =
-    rw (same-outcome c)
-    (left (firstNo (questionsOf c)) (due c) (resultOf c) (lentBuffer c) (dueEntries c) (lentLog c) e
-    (entries-count (kindOf c) (placesOf c) ∙ sym (due-count c)) (result-length c e))
+    rw (laws c .settles)
+    (left (asked c) (due c) (resultOf c) (described c .buffer) (dueEntries c) (described c .log) e (laws c .counted) (laws c .fills e))
+
+pub left-right : (c : Call) → asked c ≡ allYes → described c .Right (outcomeOf c .buffer)
+left-right c e = rw (leaves c e .buffer) (laws c .right e)
 
 pub demand1 : (c : Call) → Demand1 c
 demand1 c =
@@ -121,8 +152,9 @@ demand1 c =
       accepts = λ e. ap (λ (a : Answer). a .number) (leaves c e .answer);
       accepted-only = accepted-passes c;
       refuses = λ {q} {p} e.
-          same-outcome c
-          ∙ sym (logged-refused (firstNo (questionsOf c)) (due c) (resultOf c) (lentBuffer c) (words (dueEntries c)) (lentLog c) e refl refl refl);
+          laws c .settles
+          ∙ sym
+          (logged-refused (asked c) (due c) (resultOf c) (described c .buffer) (words (dueEntries c)) (described c .log) e refl refl refl);
     }
 
 -- ---- demand 3
@@ -131,16 +163,14 @@ logs : (c : Call) → Accepted c → Logs c
 logs c a =
     let e = accepted-passes c a in
     let L = leaves c e in
-    let counted : countOf c ≡ due c = ap (λ (a : Answer). a .count) (L .answer) in
+    let exact : entries (written c) ≡ dueEntries c = ap entries (L .words-are) ∙ entries-words (dueEntries c) in
     record {
-      count = counted;
-      entry-count =
-          ap (λ ws. length (entries ws)) (L .words-are)
-          ∙ ap length (entries-words (dueEntries c))
-          ∙ entries-count (kindOf c) (placesOf c) ∙ sym (due-count c) ∙ sym counted;
-      beyond = L .log-is ∙ ap (overlay (lentLog c) 0) (sym (L .words-are));
-      replays = ap (runOf c) (L .words-are) ∙ result-runs c ∙ sym (L .buffer);
-      right = rw (L .buffer) (result-right c e);
+      count = ap (λ (a : Answer). a .count) (L .answer);
+      exact = exact;
+      whole = L .words-are ∙ ap words (sym exact);
+      beyond = L .log-is ∙ ap (overlay (described c .log) 0) (sym (L .words-are));
+      replays = ap (described c .run) exact ∙ laws c .runs ∙ sym (L .buffer);
+      right = left-right c e;
     }
 
 pub demand3 : (a b : Call) → Accepted a → Accepted b → Demand3 a b
@@ -149,7 +179,7 @@ demand3 a b p q =
     let B = leaves b (accepted-passes b q) in
     record {
       same-log = λ k n. A .words-are ∙ ap words (λ i. entriesDue (k i) (n i)) ∙ sym (B .words-are);
-      same-count = λ k n. logs a p .count ∙ due-count a ∙ (λ i. countDue (k i) (n i)) ∙ sym (due-count b) ∙ sym (logs b q .count);
+      same-count = λ k n. logs a p .count ∙ (λ i. countDue (k i) (n i)) ∙ sym (logs b q .count);
       first = logs a p;
       second = logs b q;
     }

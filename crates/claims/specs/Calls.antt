@@ -1,5 +1,5 @@
--- A call that keeps a log, with everything that it is handed, and what it comes to. The contracts of the code equate the
--- answer and the lent memory at exit with these same outcomes.
+-- A call that keeps a log, with everything that it is handed; and all that the demands speak of, said once for each call.
+-- The outcomes are those with which the contracts of the code equate the answer and the lent memory at exit.
 -- Assumes nothing: these are definitions.
 use mathlib.Core.Path.{_≡_}
 use mathlib.Core.List.{List, []}
@@ -11,81 +11,123 @@ use Rattle.counts.specs.Counts.{W, E}
 use Rattle.network.specs.Wiring.{paper}
 use Rattle.network.specs.Network.{network}
 use Rattle.network.specs.Blocks.{cut, bytesOf, moved, movedBack}
-use Rattle.network.specs.Log.{entries, runApply, runInverse}
+use Rattle.network.specs.Log.{Entry, entries, applyEntries, inverseEntries, runApply, runInverse}
 use Rattle.canonical.specs.Rule.{Canonical}
+use Rattle.steps.specs.Sequence.{setEntries}
 use Rattle.steps.specs.Run.{settingOf}
 use Rattle.apply.specs.Calls.{applyQuestions, applyCall, inverseCall}
 use Rattle.control.specs.Calls.{setQuestions, setCall}
 
+-- ---- the calls
+
+-- forward and backward through the network
+pub data Direction : Type 0 where
+  mixing : Direction
+  returning : Direction
+
 -- set: an order, the bits and the log; mix and return: n, the width, the blocks, the bits and the log
 pub data Call : Type 0 where
   set : (order bits log : List ℕ) → Call
-  mix : (n width : ℕ) (blocks bits log : List ℕ) → Call
-  return : (n width : ℕ) (blocks bits log : List ℕ) → Call
+  move : (d : Direction) (n width : ℕ) (blocks bits log : List ℕ) → Call
+
+abbrev pub mix : (n width : ℕ) (blocks bits log : List ℕ) → Call
+mix n width blocks bits log = move mixing n width blocks bits log
+
+abbrev pub return : (n width : ℕ) (blocks bits log : List ℕ) → Call
+return n width blocks bits log = move returning n width blocks bits log
+
+-- ---- what follows from a call's kind and n alone
 
 pub data Kind : Type 0 where
   setting : Kind
-  mixing : Kind
-  returning : Kind
+  moving : Direction → Kind
 
-abbrev pub kindOf : Call → Kind
-kindOf (set order bits log) = setting
-kindOf (mix n width blocks bits log) = mixing
-kindOf (return n width blocks bits log) = returning
+-- 01: 'exactly the sequence given here for its n'
+abbrev pub entriesDue : Kind → ℕ → List Entry
+entriesDue setting n = setEntries paper n
+entriesDue (moving mixing) n = applyEntries paper n
+entriesDue (moving returning) n = inverseEntries paper n
 
--- n
-abbrev pub placesOf : Call → ℕ
-placesOf (set order bits log) = length order
-placesOf (mix n width blocks bits log) = n
-placesOf (return n width blocks bits log) = n
+-- the definition's count of them
+abbrev pub countDue : Kind → ℕ → ℕ
+countDue setting n = E n
+countDue (moving d) n = W n
 
-abbrev pub questionsOf : Call → List Question
-questionsOf (set order bits log) = setQuestions order bits log
-questionsOf (mix n width blocks bits log) = applyQuestions n width (length blocks) bits (length log)
-questionsOf (return n width blocks bits log) = applyQuestions n width (length blocks) bits (length log)
+-- ---- what mix and return differ in
+
+abbrev pub moveCall : Direction → (n width : ℕ) (blocks bits log : List ℕ) → Logged
+moveCall mixing n width blocks bits log = applyCall n width blocks bits log
+moveCall returning n width blocks bits log = inverseCall n width blocks bits log
+
+-- running entries on blocks: each takes its own lent bit
+abbrev pub runMove : Direction → ℕ → List ℕ → List Entry → List (List ℕ) → List (List ℕ)
+runMove mixing n bits es blocks = runApply [] bits es blocks
+runMove returning n bits es blocks = runInverse [] n bits es blocks
+
+-- the blocks as the wiring moves them under the bits
+abbrev pub movedBy : Direction → (n width : ℕ) (bits blocks : List ℕ) → List ℕ
+movedBy mixing n width bits blocks = moved paper n width bits blocks
+movedBy returning n width bits blocks = movedBack paper n width bits blocks
+
+-- ---- each call, described
+
+pub record Described : Type 1 where
+  -- its kind, and n
+  pub kind : Kind
+  pub places : ℕ
+  -- what it asks, and what it comes to
+  pub questions : List Question
+  pub outcome : Logged
+  -- the lent buffer that it is to fill, and the lent log, as they were lent
+  pub buffer : List ℕ
+  pub log : List ℕ
+  -- running entries as a log, from the call's own input as it was lent
+  pub run : List Entry → List ℕ
+  -- what has to be left
+  pub Right : List ℕ → Type 0
+
+abbrev pub described : Call → Described
+described (set order bits log) =
+    record {
+      kind = setting;
+      places = length order;
+      questions = setQuestions order bits log;
+      outcome = setCall order bits log;
+      buffer = bits;
+      log = log;
+      run = λ es. settingOf paper order es;
+      -- demand 2's setting
+      Right = λ left. Canonical paper (network (length order)) order left;
+    }
+described (move d n width blocks bits log) =
+    record {
+      kind = moving d;
+      places = n;
+      questions = applyQuestions n width (length blocks) bits (length log);
+      outcome = moveCall d n width blocks bits log;
+      buffer = blocks;
+      log = log;
+      run = λ es. bytesOf (runMove d n bits es (cut width n blocks));
+      -- the blocks as the wiring moves them under the lent bits
+      Right = λ left. left ≡ movedBy d n width bits blocks;
+    }
+
+-- ---- what a call did
 
 abbrev pub outcomeOf : Call → Logged
-outcomeOf (set order bits log) = setCall order bits log
-outcomeOf (mix n width blocks bits log) = applyCall n width blocks bits log
-outcomeOf (return n width blocks bits log) = inverseCall n width blocks bits log
-
--- the lent buffer that the call is to fill, and the lent log, as they were lent
-abbrev pub lentBuffer : Call → List ℕ
-lentBuffer (set order bits log) = bits
-lentBuffer (mix n width blocks bits log) = blocks
-lentBuffer (return n width blocks bits log) = blocks
-
-abbrev pub lentLog : Call → List ℕ
-lentLog (set order bits log) = log
-lentLog (mix n width blocks bits log) = log
-lentLog (return n width blocks bits log) = log
+outcomeOf c = described c .outcome
 
 -- a call is accepted when every question gets a yes: number 0
 abbrev pub Accepted : Call → Type 0
 Accepted c = outcomeOf c .answer .number ≡ 0
 
--- the entries that it reports
+-- the entries that it reports, and those due
 abbrev pub countOf : Call → ℕ
 countOf c = outcomeOf c .answer .count
+
+abbrev pub due : Call → ℕ
+due c = countDue (described c .kind) (described c .places)
 
 -- the whole log that it wrote: three words for each entry that it reports
 abbrev pub written : Call → List ℕ
 written c = take (3 * countOf c) (outcomeOf c .log)
-
--- the count due
-abbrev pub due : Call → ℕ
-due (set order bits log) = E (length order)
-due (mix n width blocks bits log) = W n
-due (return n width blocks bits log) = W n
-
--- running words as a log, from the call's own input as it was lent
-abbrev pub runOf : Call → List ℕ → List ℕ
-runOf (set order bits log) ws = settingOf paper order (entries ws)
-runOf (mix n width blocks bits log) ws = bytesOf (runApply [] bits (entries ws) (cut width n blocks))
-runOf (return n width blocks bits log) ws = bytesOf (runInverse [] n bits (entries ws) (cut width n blocks))
-
--- what has to be left: demand 2's setting, or the blocks as the wiring moves them under the lent bits
-abbrev pub Right : Call → List ℕ → Type 0
-Right (set order bits log) left = Canonical paper (network (length order)) order left
-Right (mix n width blocks bits log) left = left ≡ moved paper n width bits blocks
-Right (return n width blocks bits log) left = left ≡ movedBack paper n width bits blocks

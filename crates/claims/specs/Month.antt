@@ -27,7 +27,7 @@ pub data Case : Type 0 where
 abbrev pub lent : ℕ → List ℕ
 lent size = replicate size 5
 
--- what a case comes to: the answers of its calls, and the buffers that they left. Logs are lent three words too many
+-- what a case comes to: the answers of its calls, and the buffers that they left. Logs are lent as long as they must be
 pub record Result : Type 0 where
   pub answers : List Answer
   pub buffers : List (List ℕ)

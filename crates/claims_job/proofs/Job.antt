@@ -14,6 +14,7 @@ use Rattle.answers.specs.Outcomes.{Outcome, outcome}
 use Rattle.answers.proofs.Questions.{passed}
 use Rattle.answers.proofs.Buffers.{overlay-read}
 use Rattle.counts.specs.Counts.{W}
+use Rattle.counts.proofs.Most.{switches-few}
 use Rattle.network.specs.Wiring.{paper}
 use Rattle.network.proofs.Paper.{paper-lawful}
 use Rattle.permutation.specs.Permutations.{IsPermutation, firstBadEntry}
@@ -21,13 +22,13 @@ use Rattle.permutation.proofs.Permutations.{passes-permutation}
 use Rattle.permutation.proofs.Tables.{length-tabulate}
 use Rattle.shuffle.specs.Shuffled.{shuffled}
 use Rattle.shuffle.proofs.Steps.{shuffled-permutation}
-use Rattle.canonical.proofs.Only.{canonical-length}
 use Rattle.steps_canonical.proofs.Whole.{setting-canonical}
 use Rattle.sheets.specs.Sheet.{sheet}
 use Rattle.sheets.proofs.Asking.{BothPass, both-pass}
 use Rattle.sheets.proofs.Rows.{numbers-length}
 use Rattle.sheets.proofs.Writing.{bytes-most, sheet-length}
-use Rattle.cmd_order.specs.Orders.{countIn, entriesAt, orderIn, formQuestions, entryQuestions, orderQuestions, settingFor}
+use Rattle.steps.specs.Setting.{settingFor}
+use Rattle.cmd_order.specs.Orders.{countIn, entriesAt, orderIn, formQuestions, entryQuestions, orderQuestions}
 use Rattle.cmd_order.proofs.Asking.{places-small}
 use Rattle.cmd_draw.specs.Draw.{wordAt, wordsIn, orderBytes, drawQuestions, drawCall}
 use Rattle.cmd_sheet.specs.Calls.{sheetFor, sheetCall}
@@ -35,7 +36,7 @@ use Rattle.claims.specs.Carrying.{Demand2}
 use Rattle.claims.proofs.Carrying.{demand2}
 use Rattle.claims_job.specs.Job.{written, Holds, Drawn, Made, Job}
 use Rattle.claims_job.proofs.Orders.{order-holds}
-use Rattle.claims_job.proofs.Moves.{switches-few, moves, shows}
+use Rattle.claims_job.proofs.Moves.{moves, shows}
 
 -- ---- draw
 
@@ -87,7 +88,7 @@ module _ (n : ℕ) (order input out : List ℕ) (H : Holds n order input) where
   D : Demand2 n order
   D = demand2 n order small held
 
-  setting-is : settingFor order ≡ D .house .setting
+  setting-is : settingFor paper order ≡ D .house .setting
   setting-is = rw (held .whole) (D .house .only _ (setting-canonical paper-lawful n order held))
 
   abbrev made : List ℕ
@@ -95,8 +96,8 @@ module _ (n : ℕ) (order input out : List ℕ) (H : Holds n order input) where
 
   made-is : sheetFor input ≡ made
   made-is =
-      ap (λ m. sheet m (settingFor (orderIn input))) (H .places)
-      ∙ ap (λ es. sheet n (settingFor es)) (H .entries)
+      ap (λ m. sheet m (settingFor paper (orderIn input))) (H .places)
+      ∙ ap (λ es. sheet n (settingFor paper es)) (H .entries)
       ∙ ap (sheet n) setting-is
 
   sheet-is : sheetCall input out ≡ outcome (accepted (length made)) (overlay out 0 made)
@@ -108,7 +109,7 @@ module _ (n : ℕ) (order input out : List ℕ) (H : Holds n order input) where
 
   makes : Made n order (sheetCall input out)
   makes =
-      let long : length (D .house .setting) ≡ W n = canonical-length paper n order (D .house .setting) (D .house .canonical) in
+      let long : length (D .house .setting) ≡ W n = D .house-setting .count in
       record {
         permutation = held;
         house = D .house;

@@ -2,26 +2,19 @@
 -- Assumes nothing.
 use mathlib.Core.Path.{_≡_, refl, sym, ap, _∙_}
 use mathlib.Core.List.{List}
-use Prim.Native.Nat.{ℕ, _+_, _-_, _*_, _^_, _≤_, _<_}
-use native.Mathlib.Nat.{mul-le-mul}
+use Prim.Native.Nat.{ℕ, _*_, _≤_, _<_}
 use native.Mathlib.Omega.{arith}
-use native.Mathlib.Decide.{decLt}
 use lib.ListN.{length, take, replicate, length-replicate}
 use Rattle.answers.specs.declared.Answer.{Answer}
 use Rattle.answers.specs.Answers.{accepted}
 use Rattle.answers.specs.Buffers.{overlay}
 use Rattle.answers.specs.Outcomes.{Outcome, outcome}
 use Rattle.answers.proofs.Buffers.{overlay-read}
-use Rattle.counts.specs.Counts.{W, L}
-use Rattle.counts.proofs.Rule.{W-none}
-use Rattle.counts.proofs.Formula.{W-sum}
-use Rattle.counts.proofs.Bounds.{L-le}
+use Rattle.counts.specs.Counts.{W}
+use Rattle.counts.proofs.Most.{switches-few}
 use Rattle.network.specs.Wiring.{paper}
 use Rattle.network.specs.Blocks.{moved, movedBack}
-use Rattle.network.proofs.Paper.{paper-lawful}
-use Rattle.network.proofs.Moved.{length-moved}
 use Rattle.permutation.specs.Permutations.{IsPermutation}
-use Rattle.canonical.proofs.Only.{canonical-length}
 use Rattle.canonical.proofs.Paper.{paper-order}
 use Rattle.sheets.specs.Sheet.{sheet}
 use Rattle.sheets.specs.Calls.{readSheet}
@@ -30,24 +23,10 @@ use Rattle.cmd_move.specs.Calls.{mixCall, unmixCall}
 use Rattle.cmd_move.proofs.Moving.{move-settles}
 use Rattle.cmd_show.specs.Show.{settingText, showCall}
 use Rattle.cmd_show.proofs.Showing.{show-done}
-use Rattle.claims.specs.Calls.{Call, mix, return, outcomeOf}
-use Rattle.claims.specs.Carrying.{Fits, Demand2}
-use Rattle.claims.proofs.Demands.{accepted-passes, leaves}
-use Rattle.claims_job.specs.Job.{Filled, Moves, shown}
-
--- at most 9,217 switches
-pub switches-few : (n : ℕ) → n ≤ 1024 → W n ≤ 9217
-switches-few n h = go (decLt n 1) (decLt (L (n - 1)) 10)
-  where
-    go : Dec (n < 1) → Dec (L (n - 1) < 10) → W n ≤ 9217
-    go (yes z) d = omega (arith, W-none n (omega arith))
-    go (no z) (yes l) =
-        let product : n * L (n - 1) ≤ 1024 * 9 = mul-le-mul {n₁ = n} {m₁ = L (n - 1)} {n₂ = 1024} {m₂ = 9} h (omega arith) in
-        omega (arith, product, W-sum n (omega arith))
-    go (no z) (no l) =
-        let ten : L (n - 1) ≡ 10 = omega (arith, L-le 10 (n - 1) (omega arith)) in
-        let sum : W n + 2 ^ 10 ≡ n * 10 + 1 = rw ten at (W-sum n (omega arith)) in
-        omega (arith, sum)
+use Rattle.claims.specs.Calls.{Call, mixing, returning, mix, return, outcomeOf}
+use Rattle.claims.specs.Carrying.{Filled, RoomToMove, Demand2}
+use Rattle.claims.proofs.Demands.{accepted-passes, leaves, length-movedBy}
+use Rattle.claims_job.specs.Job.{Moves, shown}
 
 module _ (n : ℕ) (order : List ℕ) (small : n ≤ 1024) (D : Demand2 n order) where
   abbrev setting : List ℕ
@@ -59,11 +38,11 @@ module _ (n : ℕ) (order : List ℕ) (small : n ≤ 1024) (D : Demand2 n order)
   -- with room for the longest setting and the longest log, as the programs have it
   module _ (buffer log : List ℕ) (room : length buffer ≡ 9217) (log-room : length log ≡ 27651) where
     read : outcome (accepted n) (overlay buffer 0 setting) ≡ readSheet made buffer
-    read = sym (D .sheet-read buffer (omega (arith, room, switches-few n small)))
+    read = sym (D .sheet-read setting buffer (D .house-setting) (omega (arith, room, switches-few n small)))
 
     front : take (W n) (overlay buffer 0 setting) ≡ setting
     front =
-        let long : length setting ≡ W n = canonical-length paper n order setting (D .house .canonical) in
+        let long : length setting ≡ W n = D .house-setting .count in
         rw (← long) (overlay-read buffer setting)
 
     -- a call that keeps a log, without it
@@ -80,14 +59,8 @@ module _ (n : ℕ) (order : List ℕ) (small : n ≤ 1024) (D : Demand2 n order)
     unmix-is width blocks =
         sym (move-settles (movedBack paper) made buffer room width blocks read refl {w = W n} refl (rw (front, log-room)))
 
-    fits : {width : ℕ} {blocks : List ℕ} → Filled n width blocks → Fits n width blocks log
-    fits F =
-        record {
-          some-width = F .some-width;
-          width-small = F .width-small;
-          blocks-fill = F .blocks-fill;
-          log-room = omega (arith, log-room, switches-few n small);
-        }
+    fits : RoomToMove n log
+    fits = omega (arith, log-room, switches-few n small)
 
     module _ (width : ℕ) (blocks : List ℕ) (F : Filled n width blocks) where
       abbrev mixed : List ℕ
@@ -96,26 +69,26 @@ module _ (n : ℕ) (order : List ℕ) (small : n ≤ 1024) (D : Demand2 n order)
       mixed-fill : Filled n width mixed
       mixed-fill =
           let c = mix n width blocks setting log in
-          let yes = accepted-passes c (ap (λ (a : Answer). a .number) (D .mix-accepted width blocks log (fits F))) in
+          let yes = accepted-passes c (ap (λ (a : Answer). a .number) (D .move-accepted mixing width blocks log F fits)) in
           record {
             some-width = F .some-width;
             width-small = F .width-small;
-            blocks-fill = ap length (leaves c yes .buffer) ∙ length-moved paper-lawful n width setting blocks (F .blocks-fill);
+            blocks-fill = ap length (leaves c yes .buffer) ∙ length-movedBy n width blocks setting log mixing (F .blocks-fill);
           }
 
       returned : unmixCall made width (mixCall made width blocks .buffer) ≡ outcome (accepted (W n)) blocks
       returned =
           ap (λ (o : Outcome). unmixCall made width (o .buffer)) (mix-is width blocks)
           ∙ unmix-is width mixed
-          ∙ rw (D .return-accepted width mixed log (fits mixed-fill))
-          (ap (outcome (accepted (W n))) (D .returns width blocks log log (fits F) (fits F .log-room)))
+          ∙ rw (D .move-accepted returning width mixed log mixed-fill fits)
+          (ap (outcome (accepted (W n))) (D .returns width blocks log log F fits fits))
 
     moves-so : Moves n order made
     moves-so =
         record {
           mix-accepted = λ width blocks F.
-              ap (λ (o : Outcome). o .answer) (mix-is width blocks) ∙ D .mix-accepted width blocks log (fits F);
-          carries = λ width blocks F i l. rw (mix-is width blocks) (D .carries width blocks log (fits F) i l);
+              ap (λ (o : Outcome). o .answer) (mix-is width blocks) ∙ D .move-accepted mixing width blocks log F fits;
+          carries = λ width blocks F i l. rw (mix-is width blocks) (D .carries width blocks log F fits i l);
           returns = returned;
         }
 

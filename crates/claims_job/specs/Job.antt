@@ -21,7 +21,7 @@ use Rattle.cmd_draw.specs.Draw.{wordsIn, orderBytes, drawCall}
 use Rattle.cmd_sheet.specs.Calls.{sheetCall}
 use Rattle.cmd_move.specs.Calls.{mixCall, unmixCall}
 use Rattle.cmd_show.specs.Show.{orderText, pictured, showCall}
-use Rattle.claims.specs.Carrying.{block}
+use Rattle.claims.specs.Carrying.{block, Filled}
 
 -- what draw and sheet write to standard output: as many bytes of the buffer's front as the answer counts
 abbrev pub written : Outcome → List ℕ
@@ -32,12 +32,6 @@ pub record Holds (n : ℕ) (order input : List ℕ) : Type 0 where
   pub asked : firstNo (orderQuestions input) ≡ allYes
   pub places : countIn input ≡ n
   pub entries : orderIn input ≡ order
-
--- n blocks of `width` bytes
-pub record Filled (n width : ℕ) (blocks : List ℕ) : Type 0 where
-  pub some-width : 1 ≤ width
-  pub width-small : width ≤ 256
-  pub blocks-fill : length blocks ≡ n * width
 
 -- draw is accepted, and what it writes, at most 2,050 bytes, holds the order, a permutation
 pub record Drawn (n : ℕ) (order : List ℕ) (o : Outcome) : Type 0 where

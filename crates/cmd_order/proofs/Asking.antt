@@ -10,7 +10,6 @@ use borrow.Author.Tests.{le-leb, lt-leb, leb-true}
 use Rattle.answers.specs.declared.Answer.{Answer}
 use Rattle.answers.specs.Questions.{Question, ask, allYes, noAt, firstNo}
 use Rattle.answers.specs.Outcomes.{outcome, settled}
-use Rattle.answers.proofs.Outcomes.{ends-refused}
 use Rattle.answers.proofs.Questions.{asked-yes, asked-no, asked-both, asked-first, passed}
 use Rattle.numbers.specs.Numbers.{numberQuestions, numberAt}
 use Rattle.numbers.specs.Reading.{meaning, answerOf}
@@ -21,7 +20,9 @@ use Rattle.sheets.specs.Reading.{numbersQuestions, numbersAt, placePast}
 use Rattle.sheets.specs.Inner.{Row}
 use Rattle.sheets.proofs.Rows.{Reading, reading-starts, reading-more, reading-stops, reading-ends, numbers-length}
 use Rattle.sheets.proofs.Asking.{both-pass}
-use Rattle.cmd_order.specs.Orders.{countIn, entriesAt, orderIn, endOf, formQuestions, entryQuestions, orderQuestions, settingFor, orderSetting}
+use Rattle.network.specs.Wiring.{paper}
+use Rattle.steps.specs.Setting.{settingFor}
+use Rattle.cmd_order.specs.Orders.{countIn, entriesAt, orderIn, endOf, formQuestions, entryQuestions, orderQuestions, Reported, reported, entriesLogged, setReport, orderReport}
 
 -- ---- the entries in a row
 
@@ -144,13 +145,15 @@ places-small input e =
     leb-true (countIn input) 1024 (passed 1 0 (leb (countIn input) 1024) rest (both-pass (numberQuestions input 0) count e .second) .here)
 
 module _ (input buffer : List ℕ) {order : List ℕ} {read : ReadNumber} (R : Order input order read) where
-  pub form-refused : {q p : ℕ} {a : Answer} → read ≡ Refused q p → a ≡ answerOf read → outcome a buffer ≡ orderSetting input buffer
-  unfolding orderSetting orderQuestions
+  pub form-refused : {q p : ℕ} {a : Answer} → read ≡ Refused q p → a ≡ answerOf read → reported (outcome a buffer) 0 ≡ orderReport input buffer
+  unfolding orderReport orderQuestions
   form-refused t e =
-      ends-refused (firstNo (orderQuestions input)) (countIn input) (settingFor (orderIn input)) buffer
-      (asked-first (formQuestions input) (entryQuestions (orderIn input))
-      (got-refused (firstNo (formQuestions input)) (countIn input) (endOf input) (sym t ∙ R .answer)))
-      (e ∙ ap answerOf t) refl
+      let no =
+      asked-first (formQuestions input) (entryQuestions (orderIn input))
+      (got-refused (firstNo (formQuestions input)) (countIn input) (endOf input) (sym t ∙ R .answer))
+      in
+      ap (λ (a : Answer). reported (outcome a buffer) 0) (e ∙ ap answerOf t)
+      ∙ sym (ap (λ v. reported (settled v (countIn input) (settingFor paper (orderIn input)) buffer) (entriesLogged v (countIn input))) no)
 
   module _ {n end : ℕ} (t : read ≡ Number n end) where
     passes : Got (firstNo (formQuestions input)) (countIn input) (endOf input) n end
@@ -159,15 +162,14 @@ module _ (input buffer : List ℕ) {order : List ℕ} {read : ReadNumber} (R : O
     pub places-few : n ≤ 1024
     places-few = rw (passes .value) (places-small input (passes .asked))
 
-    pub then-set : {a : Answer} {b : List ℕ}
-        → outcome a b ≡ settled (firstNo (entryQuestions (take n order))) (length (take n order)) (settingFor (take n order)) buffer
-        → outcome a b ≡ orderSetting input buffer
-    unfolding orderSetting orderQuestions
+    pub then-set : {o : Reported} → o ≡ setReport (entryQuestions (take n order)) (length (take n order)) (take n order) buffer
+        → o ≡ orderReport input buffer
+    unfolding orderReport orderQuestions
     then-set e =
         let same : take n order ≡ orderIn input = rw (passes .value) (R .numbers (passes .asked)) in
         let places : length (orderIn input) ≡ countIn input = numbers-length input (countIn input) (entriesAt input) in
         e
-        ∙ ap (λ o. settled (firstNo (entryQuestions o)) (length o) (settingFor o) buffer) same
-        ∙ ap (λ m. settled (firstNo (entryQuestions (orderIn input))) m (settingFor (orderIn input)) buffer) places
-        ∙ ap (λ v. settled v (countIn input) (settingFor (orderIn input)) buffer)
+        ∙ ap (λ o. setReport (entryQuestions o) (length o) o buffer) same
+        ∙ ap (λ m. setReport (entryQuestions (orderIn input)) m (orderIn input) buffer) places
+        ∙ ap (λ v. reported (settled v (countIn input) (settingFor paper (orderIn input)) buffer) (entriesLogged v (countIn input)))
         (sym (asked-both (formQuestions input) (entryQuestions (orderIn input)) (passes .asked)))

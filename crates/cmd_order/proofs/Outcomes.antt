@@ -11,14 +11,16 @@ use Rattle.answers.specs.Questions.{allYes, firstNo}
 use Rattle.answers.specs.Outcomes.{answerOf, bufferOf, Outcome, outcome}
 use Rattle.answers.proofs.Outcomes.{Numbered, accepted-when}
 use Rattle.answers.proofs.Buffers.{overlay-front}
-use Rattle.counts.specs.Counts.{W}
+use Rattle.counts.specs.Counts.{W, E}
 use Rattle.numbers.specs.Numbers.{numberQuestions}
 use Rattle.numbers.proofs.Numbers.{numbered}
 use Rattle.sheets.specs.Reading.{numbersQuestions}
 use Rattle.sheets.proofs.Rows.{numbers-length}
 use Rattle.sheets.proofs.Asking.{both-pass}
 use Rattle.sheets.proofs.Round.{numbered-both, numbered-row}
-use Rattle.cmd_order.specs.Orders.{countIn, entriesAt, orderIn, formQuestions, entryQuestions, orderQuestions, settingFor, orderSetting}
+use Rattle.network.specs.Wiring.{paper}
+use Rattle.steps.specs.Setting.{settingFor}
+use Rattle.cmd_order.specs.Orders.{countIn, entriesAt, orderIn, formQuestions, entryQuestions, orderQuestions, orderSetting, Reported, reported, entriesLogged, orderReport}
 use Rattle.cmd_order.proofs.Asking.{places-small}
 use Rattle.cmd_order.proofs.Setting.{setting-length}
 
@@ -30,13 +32,23 @@ order-numbered input =
     (omega arith, numbered-both (numbersQuestions (countIn input) input (entriesAt input)) _ (numbered-row (countIn input) input (entriesAt input)) (omega arith, tt)))
     (omega arith, tt)
 
+-- the outcome without the entries, and the entries
+pub report-outcome : {input buffer : List ℕ} {o : Outcome} {e : ℕ} → reported o e ≡ orderReport input buffer → o ≡ orderSetting input buffer
+unfolding orderReport orderSetting
+report-outcome r = ap (λ (x : Reported). x .outcome) r
+
+pub report-entries : {input buffer : List ℕ} {o : Outcome} {e : ℕ} → reported o e ≡ orderReport input buffer
+    → firstNo (orderQuestions input) ≡ allYes → e ≡ E (countIn input)
+unfolding orderReport
+report-entries {input} r y = ap (λ (x : Reported). x .entries) r ∙ ap (λ v. entriesLogged v (countIn input)) y
+
 -- all questions got a yes; the count is the number of places, and the setting is in front
 pub record Accepted (input : List ℕ) (a : Answer) (bits : List ℕ) : Type 0 where
   pub asked : firstNo (orderQuestions input) ≡ allYes
   pub places : a .count ≡ countIn input
   pub few : a .count ≤ 1024
   pub room : W (a .count) ≤ length bits
-  pub setting : take (W (a .count)) bits ≡ settingFor (orderIn input)
+  pub setting : take (W (a .count)) bits ≡ settingFor paper (orderIn input)
 
 pub order-accepted : (input before : List ℕ) {a : Answer} {bits : List ℕ}
     → outcome a bits ≡ orderSetting input before → a .number ≡ 0 → Accepted input a bits
@@ -51,16 +63,16 @@ order-accepted input before {a} {bits} O z =
     let places : a .count ≡ countIn input =
     ap (λ (a : Answer). a .count) answered ∙ ap (λ v. answerOf v (countIn input) .count) yes
     in
-    let long : length (settingFor order) ≡ W (a .count) =
+    let long : length (settingFor paper order) ≡ W (a .count) =
     setting-length order (both .second) ∙ ap W (numbers-length input (countIn input) (entriesAt input) ∙ sym places)
     in
-    let front : bits ≡ settingFor order ++ drop (length (settingFor order)) before =
-    ap (λ (o : Outcome). o .buffer) O ∙ ap (λ v. bufferOf v (settingFor order) before) yes ∙ overlay-front before (settingFor order)
+    let front : bits ≡ settingFor paper order ++ drop (length (settingFor paper order)) before =
+    ap (λ (o : Outcome). o .buffer) O ∙ ap (λ v. bufferOf v (settingFor paper order) before) yes ∙ overlay-front before (settingFor paper order)
     in
     record {
       asked = yes;
       places = places;
       few = rw places (places-small input (both .first));
-      room = omega (arith, long, ap length front, length-append (settingFor order) (drop (length (settingFor order)) before));
-      setting = rw front (take-at (settingFor order) (drop (length (settingFor order)) before) (W (a .count)) long);
+      room = omega (arith, long, ap length front, length-append (settingFor paper order) (drop (length (settingFor paper order)) before));
+      setting = rw front (take-at (settingFor paper order) (drop (length (settingFor paper order)) before) (W (a .count)) long);
     }

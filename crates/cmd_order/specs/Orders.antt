@@ -4,12 +4,12 @@ use mathlib.Core.List.{List, [], _∷_, _++_}
 use Prim.Native.Nat.{ℕ}
 use lib.Dec.{leb}
 use lib.ListN.{length}
-use Rattle.answers.specs.Questions.{Question, ask, askEach, firstNo}
+use Rattle.answers.specs.Questions.{Question, ask, askEach, Verdict, allYes, noAt, firstNo}
 use Rattle.answers.specs.Outcomes.{Outcome, settled}
+use Rattle.counts.specs.Counts.{E}
 use Rattle.network.specs.Wiring.{paper}
 use Rattle.permutation.specs.Permutations.{goodEntry}
-use Rattle.steps.specs.Sequence.{setEntries}
-use Rattle.steps.specs.Run.{settingOf}
+use Rattle.steps.specs.Setting.{settingFor}
 use Rattle.numbers.specs.Numbers.{numberQuestions, numberAt}
 use Rattle.sheets.specs.Reading.{numbersQuestions, numbersAt, placePast}
 
@@ -47,10 +47,26 @@ orderQuestions input = formQuestions input ++ entryQuestions (orderIn input)
 
 -- ---- the setting
 
--- of an order: the one that `control_bits` leaves (01: set)
-abbrev pub settingFor : List ℕ → List ℕ
-settingFor order = settingOf paper order (setEntries paper (length order))
-
 -- of the order that an input holds, over the front of the buffer; the count is the number of places
 unfoldable pub orderSetting : List ℕ → List ℕ → Outcome
-orderSetting input buffer = settled (firstNo (orderQuestions input)) (countIn input) (settingFor (orderIn input)) buffer
+orderSetting input buffer = settled (firstNo (orderQuestions input)) (countIn input) (settingFor paper (orderIn input)) buffer
+
+-- ---- beside the answer, the number of entries that the setter logged: 0 in a refusal
+
+abbrev pub entriesLogged : Verdict → ℕ → ℕ
+entriesLogged allYes n = E n
+entriesLogged (noAt q p) n = 0
+
+pub record Reported : Type 0 where
+  pub outcome : Outcome
+  pub entries : ℕ
+
+abbrev pub reported : Outcome → ℕ → Reported
+reported o e = record { outcome = o; entries = e }
+
+-- what setting an order of n places comes to, after some questions
+abbrev pub setReport : List Question → ℕ → List ℕ → List ℕ → Reported
+setReport qs n order buffer = reported (settled (firstNo qs) n (settingFor paper order) buffer) (entriesLogged (firstNo qs) n)
+
+unfoldable pub orderReport : List ℕ → List ℕ → Reported
+orderReport input buffer = setReport (orderQuestions input) (countIn input) (orderIn input) buffer

@@ -3,8 +3,7 @@
 ghost use mathlib.Core.Path.{_≡_};
 ghost use Prim.Native.Nat.{_≤_};
 ghost use lib.ListN.{length};
-ghost use Rattle.answers.specs.Questions.{firstNo};
-ghost use Rattle.answers.specs.Outcomes.{outcome, settled};
+ghost use Rattle.answers.specs.Outcomes.{outcome};
 ghost use Rattle.sheets.specs.Inner.{Row};
 ghost use Rattle.sheets.specs.Reading.{numbersQuestions, numbersAt, placePast};
 ghost use Rattle.cmd_order.specs.Orders.{
@@ -13,11 +12,18 @@ ghost use Rattle.cmd_order.specs.Orders.{
   endOf,
   formQuestions,
   entryQuestions,
-  settingFor,
-  orderSetting,
+  setReport,
+  reported,
+  orderReport,
 };
 use answers::Answer;
 use numbers::ReadNumber;
+
+// An answer, and beside it the number of entries that the setter logged: 0 in a refusal.
+pub struct OrderSet {
+    pub answer: Answer,
+    pub entries: usize,
+}
 
 // The n entries from a place on, to the front of order: n with the place after them, or the refusal (8, 9).
 fn read_entries(input: &[u8], start: usize, n: usize, order: &mut [u16]) -> ReadNumber
@@ -63,32 +69,43 @@ fn read_order(input: &[u8], order: &mut [u16]) -> ReadNumber
     entries
 }
 
-// Question 6, and the setting over the front of bits. The bits and the log have the room that `control_bits` asks for: of its
-// questions only 6 can get a no.
-fn set(order: &[u16], bits: &mut [u8]) -> Answer
+// Question 6, and the setting over the front of bits.
+fn set(order: &[u16], bits: &mut [u8]) -> OrderSet
     requires { ⌜ (length (now order) ≤ 1024) × (9217 ≤ length (now bits)) ⌝ }
-    ensures { λ r. ⌜ outcome r (now (bits .exit)) ≡ settled (firstNo (entryQuestions (now (order .entry))))
-        (length (now (order .entry))) (settingFor (now (order .entry))) (now (bits .entry)) ⌝ }
+    ensures { λ r. ⌜ reported (outcome (r .answer) (now (bits .exit))) (r .entries)
+        ≡ setReport (entryQuestions (now (order .entry))) (length (now (order .entry))) (now (order .entry)) (now (bits .entry)) ⌝ }
 {
-    let w = counts::switches(order.len());
-    let e = 3 * counts::entries(order.len());
-    let mut log = [0u16; 49143];
-    let answer = control::control_bits(order, &mut bits[..w], &mut log[..e]);
-    if answer.number != 0 {
-        return answer;
+    let bad = permutation::first_bad_entry(order);
+    if bad != order.len() {
+        return refused(answers::refuse(6, bad));
     }
-    answers::accept(order.len())
+    let w = counts::switches(order.len());
+    let entries = setting_order::setting_of_order(order, &mut bits[..w]);
+    OrderSet {
+        answer: answers::accept(order.len()),
+        entries,
+    }
+}
+
+fn refused(answer: Answer) -> OrderSet
+    ensures { λ r. ⌜ (r .answer ≡ answer) × (r .entries ≡ 0) ⌝ }
+{
+    OrderSet {
+        answer,
+        entries: 0,
+    }
 }
 
 // The setting of the order that an input holds, over the front of bits, and as count its places. A refusal leaves the bits
 // alone. 9,217 bits are enough for each order.
-pub fn order_setting(input: &[u8], bits: &mut [u8; 9217]) -> Answer
-    ensures { λ r. ⌜ outcome r (now (bits .exit)) ≡ orderSetting (now (input .entry)) (now (bits .entry)) ⌝ }
+pub fn order_setting(input: &[u8], bits: &mut [u8; 9217]) -> OrderSet
+    ensures { λ r. ⌜ reported (outcome (r .answer) (now (bits .exit))) (r .entries)
+        ≡ orderReport (now (input .entry)) (now (bits .entry)) ⌝ }
 {
     let mut order = [0u16; 1024];
     let read = read_order(input, &mut order);
     let ReadNumber::Number(n, _) = read else {
-        return numbers::answer(read);
+        return refused(numbers::answer(read));
     };
     set(&order[..n], bits)
 }

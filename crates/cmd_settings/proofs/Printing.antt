@@ -16,7 +16,9 @@ use Rattle.sheets.proofs.Writing.{put-length}
 use Rattle.cmd_lines.specs.Text.{decimal, refusalLine}
 use Rattle.cmd_lines.proofs.Decimal.{digits-few}
 use Rattle.cmd_lines.proofs.Lines.{bits-within}
-use Rattle.cmd_order.specs.Orders.{countIn, orderIn, orderQuestions, settingFor, orderSetting}
+use Rattle.network.specs.Wiring.{paper}
+use Rattle.steps.specs.Setting.{settingFor}
+use Rattle.cmd_order.specs.Orders.{countIn, orderIn, orderQuestions, orderSetting}
 use Rattle.cmd_order.proofs.Outcomes.{Accepted, order-accepted}
 use Rattle.cmd_settings.specs.Settings.{settingLines, textOf, settingsText, Written, written, settingsCall}
 

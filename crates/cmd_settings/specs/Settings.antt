@@ -6,7 +6,9 @@ use lib.ListN.{length}
 use Rattle.answers.specs.Questions.{Verdict, allYes, noAt, firstNo}
 use Rattle.answers.specs.Buffers.{overlay}
 use Rattle.counts.specs.Counts.{E}
-use Rattle.cmd_order.specs.Orders.{countIn, orderIn, orderQuestions, settingFor}
+use Rattle.network.specs.Wiring.{paper}
+use Rattle.steps.specs.Setting.{settingFor}
+use Rattle.cmd_order.specs.Orders.{countIn, orderIn, orderQuestions}
 use Rattle.cmd_lines.specs.Text.{decimal, bitsText, line, refusalLine}
 
 -- ---- the text
@@ -16,7 +18,7 @@ unfoldable pub settingLines : ℕ → List ℕ → ℕ → List ℕ
 settingLines n bits entries = line "places " (decimal n) ++ (line "setting " (bitsText bits) ++ line "entries " (decimal entries))
 
 abbrev pub textOf : Verdict → List ℕ → List ℕ
-textOf allYes input = settingLines (countIn input) (settingFor (orderIn input)) (E (countIn input))
+textOf allYes input = settingLines (countIn input) (settingFor paper (orderIn input)) (E (countIn input))
 textOf (noAt q p) input = refusalLine q p
 
 -- the first question that gets a no decides

@@ -20,11 +20,12 @@ pub fn settings_text(input: &[u8], out: &mut [u8; 9252]) -> usize
     ensures { λ r. ⌜ written r (now (out .exit)) ≡ settingsCall (now (input .entry)) (now (out .entry)) ⌝ }
 {
     let mut bits = [0u8; 9217];
-    let answer = cmd_order::order_setting(input, &mut bits);
+    let set = cmd_order::order_setting(input, &mut bits);
+    let answer = set.answer;
     if answer.number != 0 {
         return cmd_lines::put_refusal(out, answer);
     }
     let n = answer.count;
     let w = counts::switches(n);
-    put_lines(out, n, &bits[..w], counts::entries(n))
+    put_lines(out, n, &bits[..w], set.entries)
 }

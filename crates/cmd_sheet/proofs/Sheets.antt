@@ -28,21 +28,22 @@ use Rattle.sheets.specs.Calls.{writeSheet}
 use Rattle.sheets.proofs.Asking.{both-pass}
 use Rattle.sheets.proofs.Round.{Writable, write-accepts}
 use Rattle.sheets.proofs.Writing.{sheet-length}
-use Rattle.cmd_order.specs.Orders.{countIn, orderIn, formQuestions, entryQuestions, orderQuestions, settingFor, orderSetting}
+use Rattle.steps.specs.Setting.{settingFor}
+use Rattle.cmd_order.specs.Orders.{countIn, orderIn, formQuestions, entryQuestions, orderQuestions, orderSetting}
 use Rattle.cmd_order.proofs.Outcomes.{Accepted, order-accepted}
 use Rattle.cmd_sheet.specs.Calls.{sheetFor, sheetCall}
 
 -- the setting of an order that passes question 6 consists of bits
-setting-bits : (order : List ℕ) → firstNo (entryQuestions order) ≡ allYes → Bits (settingFor order)
+setting-bits : (order : List ℕ) → firstNo (entryQuestions order) ≡ allYes → Bits (settingFor paper order)
 unfolding Bits Rattle.canonical.specs.Rule.Bits
-setting-bits order y i = go (decLt i (length (settingFor order)))
+setting-bits order y i = go (decLt i (length (settingFor paper order)))
   where
     O : IsPermutation (length order) order
     O = passes-permutation order (eqb-true (firstBadEntry order) (length order) (passed 6 (firstBadEntry order) (eqb (firstBadEntry order) (length order)) [] y .here))
 
-    go : Dec (i < length (settingFor order)) → getD (settingFor order) i 0 < 2
-    go (yes l) = canonical-bits paper-lawful (length order) order O (settingFor order) (setting-canonical paper-lawful (length order) order O) i l
-    go (no l) = rw (List·getD-eq-default (settingFor order) 0 {n = i} (omega arith)) (omega arith)
+    go : Dec (i < length (settingFor paper order)) → getD (settingFor paper order) i 0 < 2
+    go (yes l) = canonical-bits paper-lawful (length order) order O (settingFor paper order) (setting-canonical paper-lawful (length order) order O) i l
+    go (no l) = rw (List·getD-eq-default (settingFor paper order) 0 {n = i} (omega arith)) (omega arith)
 
 module _ (input before out : List ℕ) {read : Answer} {bits : List ℕ} (O : outcome read bits ≡ orderSetting input before) where
   pub sheet-refused : (read .number ≡ 0 → ⊥) → outcome read out ≡ sheetCall input out
@@ -75,7 +76,7 @@ module _ (input before out : List ℕ) {read : Answer} {bits : List ℕ} (O : ou
         → outcome a after ≡ sheetCall input out
     unfolding sheetCall orderQuestions
     sheet-written {w} e m l r =
-        let setting : take w bits ≡ settingFor (orderIn input) = rw e (A .setting) in
+        let setting : take w bits ≡ settingFor paper (orderIn input) = rw e (A .setting) in
         let long : length (take w bits) ≡ w = length-take-le w bits (bits-there e) in
         let areBits : Bits (take w bits) =
         rw setting (setting-bits (orderIn input) (both-pass (formQuestions input) (entryQuestions (orderIn input)) (A .asked) .second))

@@ -9,7 +9,8 @@ pub fn order_sheet(input: &[u8], out: &mut [u8; 1321]) -> Answer
     ensures { λ r. ⌜ outcome r (now (out .exit)) ≡ sheetCall (now (input .entry)) (now (out .entry)) ⌝ }
 {
     let mut bits = [0u8; 9217];
-    let read = cmd_order::order_setting(input, &mut bits);
+    let set = cmd_order::order_setting(input, &mut bits);
+    let read = set.answer;
     if read.number != 0 {
         return read;
     }

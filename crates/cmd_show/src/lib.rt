@@ -43,7 +43,7 @@ fn put_rest(out: &mut [u8], at: usize, n: usize, bits: &[u8]) -> usize
         ++ pictured n (now (bits .entry))) r (now (out .exit)) ⌝ }
 {
     let mut order = [0u16; 1024];
-    setting_order::carried_order(n, bits, &mut order);
+    setting_order::order_of_setting(n, bits, &mut order);
     let a = put_order(out, at, &order[..n]);
     put_pictured(out, a, n, bits)
 }

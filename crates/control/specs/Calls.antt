@@ -11,7 +11,7 @@ use Rattle.network.specs.Wiring.{paper}
 use Rattle.network.specs.Log.{words}
 use Rattle.permutation.specs.Permutations.{goodEntry}
 use Rattle.steps.specs.Sequence.{setEntries}
-use Rattle.steps.specs.Run.{settingOf}
+use Rattle.steps.specs.Setting.{settingFor}
 
 -- 1, 4, 5, 6
 abbrev pub setQuestions : List ℕ → List ℕ → List ℕ → List Question
@@ -28,7 +28,7 @@ setCall order bits log =
     settledLogged
     (firstNo (setQuestions order bits log))
     (E (length order))
-    (settingOf paper order (setEntries paper (length order)))
+    (settingFor paper order)
     bits
     (words (setEntries paper (length order)))
     log

@@ -10,7 +10,7 @@ use Rattle.network.specs.Wiring.{paper}
 use Rattle.network.specs.Log.{words}
 use Rattle.steps.specs.State.{State}
 use Rattle.steps.specs.Sequence.{setEntries}
-use Rattle.steps.specs.Run.{settingOf}
+use Rattle.steps.specs.Setting.{settingFor}
 use Rattle.control_sweeps.specs.Tables.{Below}
 use Rattle.control_steps.specs.declared.Walk.{Walk}
 
@@ -41,5 +41,5 @@ Lengthens o m trails = (i : ℕ) → i < m → (getD trails (o + i) 0 + 1) * (m 
 -- what the setter leaves after its questions: the count, the bits, the log
 pub record Sets (order log : List ℕ) (r : ℕ) (bits′ log′ : List ℕ) : Type 0 where
   pub count : r ≡ E (length order)
-  pub bits-are : bits′ ≡ settingOf paper order (setEntries paper (length order))
+  pub bits-are : bits′ ≡ settingFor paper order
   pub log-is : log′ ≡ overlay log 0 (words (setEntries paper (length order)))

@@ -169,8 +169,9 @@ fn set_table(
     w.e
 }
 
-// The setter after its questions: sets an order, logs, and counts the entries.
-fn set_order(order: &[u16], bits: &mut [u8], log: &mut [u16]) -> usize
+// The setter after its questions: sets an order, logs, and counts the entries. Public for the crates that set orders of which
+// the questions are known to get a yes.
+pub fn set_order(order: &[u16], bits: &mut [u8], log: &mut [u16]) -> usize
     requires { ⌜ (length (now order) ≤ 1024) × Below 1024 (now order) × (length (now bits) ≡ W (length (now order))) × (length (now bits) ≤ 9217) × (3 * E (length (now order)) ≤ length (now log)) ⌝ }
     ensures { λ r. ⌜ Sets (now (order .entry)) (now (log .entry)) r (now (bits .exit)) (now (log .exit)) ⌝ }
 {

@@ -1,19 +1,30 @@
-// The order that a setting carries: the blocks 0, 1, .. are returned under it, and then block i names the place to which the
-// block at i goes.
+// The setting of an order and the order of a setting, for the crates that keep no log. Each function `requires` that the
+// questions of the call behind it get a yes.
 ghost use mathlib.Core.Path.{_≡_};
 ghost use Prim.Native.Nat.{_+_, _*_, _≤_};
 ghost use lib.ListN.{length};
 ghost use Rattle.answers.specs.Buffers.{overlay};
 ghost use Rattle.bits.specs.Bits.{Bits};
-ghost use Rattle.counts.specs.Counts.{W};
+ghost use Rattle.counts.specs.Counts.{W, E};
 ghost use Rattle.network.specs.Wiring.{paper};
 ghost use Rattle.network.specs.Blocks.{orderOf};
 ghost use Rattle.permutation.specs.Permutations.{tabulate};
+ghost use Rattle.steps.specs.Setting.{settingFor};
+ghost use Rattle.control_sweeps.specs.Tables.{Below};
 ghost use Rattle.setting_order.specs.Inner.{numberIn, Numbered};
 
-// The order over the front of `order`. Public for the crate that shows a sheet, which has read the setting and so can show
-// what this `requires`: no question of the return gets a no.
-pub fn carried_order(n: usize, bits: &[u8], order: &mut [u16; 1024])
+// The canonical setting of an order, in all of bits, and the number of entries that the setter logged: its log is kept aside.
+pub fn setting_of_order(order: &[u16], bits: &mut [u8]) -> usize
+    requires { ⌜ (length (now order) ≤ 1024) × Below 1024 (now order) × (length (now bits) ≡ W (length (now order))) ⌝ }
+    ensures { λ r. ⌜ (r ≡ E (length (now (order .entry)))) × (now (bits .exit) ≡ settingFor paper (now (order .entry))) ⌝ }
+{
+    let mut log = [0u16; 49143];
+    control::set_order(order, bits, &mut log)
+}
+
+// The order that a setting carries, over the front of `order`: the blocks 0, 1, .. are returned under the setting, and then
+// block i names the place to which the block at i goes.
+pub fn order_of_setting(n: usize, bits: &[u8], order: &mut [u16; 1024])
     requires { ⌜ (n ≤ 1024) × (W n ≤ 9217) × (length (now bits) ≡ W n) × Bits (now bits) ⌝ }
     ensures { λ _. ⌜ now (order .exit) ≡ overlay (now (order .entry)) 0 (orderOf paper n (now (bits .entry))) ⌝ }
 {

@@ -4,3 +4,4 @@ pub mod Steps
 pub mod Sequence
 pub mod Run
 pub mod Fold
+pub mod Setting

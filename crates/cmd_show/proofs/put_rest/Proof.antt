@@ -9,32 +9,32 @@ use borrow.Author.Needs.{needs}
 use Rattle.cmd_show.proofs.put_rest.Statement.{statement}
 use Rattle.cmd_show.proofs.put_rest.Tie as tie
 
-carried-order-requires : tie.Need-carried-order-requires
-carried-order-requires c κs = search needs
+order-of-setting-requires : tie.Need-order-of-setting-requires
+order-of-setting-requires c κs = search needs
 
 array-share-prefix-order : tie.Need-array-share-prefix-order
-array-share-prefix-order c = order-room _ _ (replicate 1024 0) (omega (arith, c .before .before .before .before .before .pre .0)) (c .before .carried-order .ensures)
+array-share-prefix-order c = order-room _ _ (replicate 1024 0) (omega (arith, c .before .before .before .before .before .pre .0)) (c .before .order-of-setting .ensures)
 
 slice-aggregate-put-order : tie.Need-slice-aggregate-put-order
-slice-aggregate-put-order c = sym (length-take-le _ _ (order-room _ _ (replicate 1024 0) (omega (arith, c .before .before .before .before .before .before .pre .0)) (c .before .before .carried-order .ensures)))
+slice-aggregate-put-order c = sym (length-take-le _ _ (order-room _ _ (replicate 1024 0) (omega (arith, c .before .before .before .before .before .before .pre .0)) (c .before .before .order-of-setting .ensures)))
 
 put-order-requires : tie.Need-put-order-requires
-put-order-requires c κs = let s = c .before .before .before .before .before .before in omega (arith, s .pre, length-take (s .args .n) (c .before .before .carried-order .last .1 .1 .0))
+put-order-requires c κs = let s = c .before .before .before .before .before .before in omega (arith, s .pre, length-take (s .args .n) (c .before .before .order-of-setting .last .1 .1 .0))
 
 put-pictured-requires : tie.Need-put-pictured-requires
-put-pictured-requires c κs = let s = c .before .before .before .before .before .before .before .before .before .before in (s .pre .2, s .pre .3, omega (arith, s .pre .0, s .pre .4, c .before .before .before .put-order .ensures .1, c .before .before .before .put-order .kept, length-take (s .args .n) (c .before .before .before .before .before .before .carried-order .last .1 .1 .0)))
+put-pictured-requires c κs = let s = c .before .before .before .before .before .before .before .before .before .before in (s .pre .2, s .pre .3, omega (arith, s .pre .0, s .pre .4, c .before .before .before .put-order .ensures .1, c .before .before .before .put-order .kept, length-take (s .args .n) (c .before .before .before .before .before .before .order-of-setting .last .1 .1 .0)))
 
 same-length : tie.Need-same-length
 same-length c = search needs
 
 returns : tie.Need-returns
-returns c = let s = c .before .before .before .before .before .before .before .before .before .before .before .before .before in rest-put (s .args .n) (s .args .bits .now) _ (order-front (s .args .n) (s .args .bits .now) (replicate 1024 0) (c .before .before .before .before .before .before .before .before .before .carried-order .ensures)) (omega (arith, s .pre .0, s .pre .4, length-take (s .args .n) (c .before .before .before .before .before .before .before .before .before .carried-order .last .1 .1 .0))) (c .before .before .before .before .before .before .put-order .ensures) (c .before .before .put-pictured .ensures)
+returns c = let s = c .before .before .before .before .before .before .before .before .before .before .before .before .before in rest-put (s .args .n) (s .args .bits .now) _ (order-front (s .args .n) (s .args .bits .now) (replicate 1024 0) (c .before .before .before .before .before .before .before .before .before .order-of-setting .ensures)) (omega (arith, s .pre .0, s .pre .4, length-take (s .args .n) (c .before .before .before .before .before .before .before .before .before .order-of-setting .last .1 .1 .0))) (c .before .before .before .before .before .before .put-order .ensures) (c .before .before .put-pictured .ensures)
 
 pub put-rest-spec : {M : Type 1} → statement M
 put-rest-spec =
     tie.close
     (tie.spec
-    carried-order-requires
+    order-of-setting-requires
     array-share-prefix-order
     slice-aggregate-put-order
     put-order-requires

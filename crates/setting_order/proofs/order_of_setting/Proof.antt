@@ -1,4 +1,4 @@
--- `carried::carried_order` meets its contract.
+-- `setting_order::order_of_setting` meets its contract.
 -- Assumes nothing.
 use mathlib.Core.Path.{sym, ap, _∙_}
 use native.Mathlib.Omega.{arith}
@@ -7,8 +7,8 @@ use lib.Seq.{length-take-le}
 use Rattle.answers.specs.Buffers.{overlay}
 use borrow.Author.Needs.{needs}
 use Rattle.setting_order.proofs.Carrying.{array-kept, carried-in}
-use Rattle.setting_order.proofs.carried_order.Statement.{statement}
-use Rattle.setting_order.proofs.carried_order.Tie as tie
+use Rattle.setting_order.proofs.order_of_setting.Statement.{statement}
+use Rattle.setting_order.proofs.order_of_setting.Tie as tie
 
 slice-aggregate-number : tie.Need-slice-aggregate-number
 slice-aggregate-number c = search needs
@@ -45,8 +45,8 @@ returns c =
     (carried-in (s .args .n) (c .before .before .before .before .before .before .before .before .before .number .last .1 .0) (s .pre .0) (c .before .before .before .before .before .before .before .before .before .number .kept .1 .0) (s .args .bits .now) (replicate 27651 0) (s .pre .1) (s .pre .2) (s .pre .3)
     (c .before .before .before .before .before .before .before .before .before .number .ensures) (search needs) (c .before .before .before .before .before .apply-inverse .ensures))
 
-pub carried-order-spec : {M : Type 1} → statement M
-carried-order-spec =
+pub order-of-setting-spec : {M : Type 1} → statement M
+order-of-setting-spec =
     tie.close
     (tie.spec
     slice-aggregate-number
