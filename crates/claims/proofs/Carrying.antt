@@ -68,7 +68,7 @@ module _ (n : ℕ) (order : List ℕ) (small : n ≤ 1024) (O : IsPermutation n 
   module _ (width : ℕ) (blocks log : List ℕ) (F : Filled n width blocks) (r : RoomToMove n log) where
     moves : (d : Direction)
         → Left (W n) (movedBy d n width (house .setting) blocks) (dueEntries (move d n width blocks (house .setting) log)) log
-            (outcomeOf (move d n width blocks (house .setting) log))
+        (outcomeOf (move d n width blocks (house .setting) log))
     moves d =
         leaves (move d n width blocks (house .setting) log)
         (fit-passes

@@ -95,7 +95,7 @@ module _ (order bits log : List ℕ) where
 module _ (n width : ℕ) (blocks bits log : List ℕ) where
   move-settles : (d : Direction) → moveCall d n width blocks bits log
       ≡ settledLogged (firstNo (applyQuestions n width (length blocks) bits (length log))) (W n) (movedBy d n width bits blocks) blocks
-          (words (entriesDue (moving d) n)) log
+      (words (entriesDue (moving d) n)) log
   unfolding applyCall inverseCall
   move-settles mixing = refl
   move-settles returning = refl

@@ -33,14 +33,14 @@ order-numbered input =
     (omega arith, tt)
 
 -- the outcome without the entries, and the entries
-pub report-outcome : {input buffer : List ℕ} {o : Outcome} {e : ℕ} → reported o e ≡ orderReport input buffer → o ≡ orderSetting input buffer
+pub report-outcome : (input buffer : List ℕ) {o : Outcome} {e : ℕ} → reported o e ≡ orderReport input buffer → o ≡ orderSetting input buffer
 unfolding orderReport orderSetting
-report-outcome r = ap (λ (x : Reported). x .outcome) r
+report-outcome input buffer r = ap (λ (x : Reported). x .outcome) r
 
-pub report-entries : {input buffer : List ℕ} {o : Outcome} {e : ℕ} → reported o e ≡ orderReport input buffer
+pub report-entries : (input buffer : List ℕ) {o : Outcome} {e : ℕ} → reported o e ≡ orderReport input buffer
     → firstNo (orderQuestions input) ≡ allYes → e ≡ E (countIn input)
 unfolding orderReport
-report-entries {input} r y = ap (λ (x : Reported). x .entries) r ∙ ap (λ v. entriesLogged v (countIn input)) y
+report-entries input buffer r y = ap (λ (x : Reported). x .entries) r ∙ ap (λ v. entriesLogged v (countIn input)) y
 
 -- all questions got a yes; the count is the number of places, and the setting is in front
 pub record Accepted (input : List ℕ) (a : Answer) (bits : List ℕ) : Type 0 where

@@ -90,10 +90,7 @@ fn set(order: &[u16], bits: &mut [u8]) -> OrderSet
 fn refused(answer: Answer) -> OrderSet
     ensures { λ r. ⌜ (r .answer ≡ answer) × (r .entries ≡ 0) ⌝ }
 {
-    OrderSet {
-        answer,
-        entries: 0,
-    }
+    OrderSet { answer, entries: 0 }
 }
 
 // The setting of the order that an input holds, over the front of bits, and as count its places. A refusal leaves the bits

@@ -18,8 +18,8 @@ use Rattle.cmd_lines.proofs.Decimal.{digits-few}
 use Rattle.cmd_lines.proofs.Lines.{bits-within}
 use Rattle.network.specs.Wiring.{paper}
 use Rattle.steps.specs.Setting.{settingFor}
-use Rattle.cmd_order.specs.Orders.{countIn, orderIn, orderQuestions, orderSetting}
-use Rattle.cmd_order.proofs.Outcomes.{Accepted, order-accepted}
+use Rattle.cmd_order.specs.Orders.{countIn, orderIn, orderQuestions, orderSetting, reported, orderReport}
+use Rattle.cmd_order.proofs.Outcomes.{Accepted, order-accepted, report-outcome, report-entries}
 use Rattle.cmd_settings.specs.Settings.{settingLines, textOf, settingsText, Written, written, settingsCall}
 
 -- ---- room
@@ -71,5 +71,16 @@ module _ (input before : List ℕ) {a : Answer} {bits : List ℕ} (O : outcome a
     pub bits-there : {w : ℕ} → w ≡ W (a .count) → w ≤ length bits
     bits-there e = omega (arith, e, held .room)
 
-    pub prints-lines : {w e : ℕ} → w ≡ W (a .count) → e ≡ E (a .count) → settingsText input ≡ settingLines (a .count) (take w bits) e
-    prints-lines w e = text-of input (held .asked) ∙ rw (w, e, held .setting, held .places)
+-- with the number of entries that the setter reported
+module _
+    (input before : List ℕ) {a : Answer} {bits : List ℕ} {entries : ℕ}
+    (R : reported (outcome a bits) entries ≡ orderReport input before) (z : a .number ≡ 0)
+  where
+    accepts : Accepted input a bits
+    accepts = order-accepted input before (report-outcome input before R) z
+
+    pub entries-are : entries ≡ E (a .count)
+    entries-are = report-entries input before R (accepts .asked) ∙ ap E (sym (accepts .places))
+
+    pub prints-lines : {w : ℕ} → w ≡ W (a .count) → settingsText input ≡ settingLines (a .count) (take w bits) entries
+    prints-lines w = text-of input (accepts .asked) ∙ rw (w, entries-are, accepts .setting, accepts .places)

@@ -8,14 +8,14 @@ ghost use Rattle.bits.specs.Bits.{Bits};
 ghost use Rattle.counts.specs.Counts.{W, E};
 ghost use Rattle.network.specs.Wiring.{paper};
 ghost use Rattle.network.specs.Blocks.{orderOf};
-ghost use Rattle.permutation.specs.Permutations.{tabulate};
+ghost use Rattle.permutation.specs.Permutations.{tabulate, firstBadEntry};
 ghost use Rattle.steps.specs.Setting.{settingFor};
-ghost use Rattle.control_sweeps.specs.Tables.{Below};
 ghost use Rattle.setting_order.specs.Inner.{numberIn, Numbered};
 
 // The canonical setting of an order, in all of bits, and the number of entries that the setter logged: its log is kept aside.
 pub fn setting_of_order(order: &[u16], bits: &mut [u8]) -> usize
-    requires { ⌜ (length (now order) ≤ 1024) × Below 1024 (now order) × (length (now bits) ≡ W (length (now order))) ⌝ }
+    requires { ⌜ (length (now order) ≤ 1024) × (firstBadEntry (now order) ≡ length (now order))
+        × (length (now bits) ≡ W (length (now order))) ⌝ }
     ensures { λ r. ⌜ (r ≡ E (length (now (order .entry)))) × (now (bits .exit) ≡ settingFor paper (now (order .entry))) ⌝ }
 {
     let mut log = [0u16; 49143];
