@@ -9,8 +9,8 @@ ghost use Rattle.counts.specs.Counts.{up};
 ghost use Rattle.network.specs.Wiring.{paper};
 ghost use Rattle.network.specs.Network.{down};
 ghost use Rattle.network.specs.Move.{layer, layerBack};
-ghost use Rattle.network.specs.Log.{words, layerEntries};
-ghost use Rattle.apply_exchange.specs.Bytes.{bytesSwitched, entryOf};
+ghost use Rattle.network.specs.Log.{entry, entryWords, words, layerEntries};
+ghost use Rattle.apply_exchange.specs.Bytes.{bytesSwitched};
 ghost use Rattle.apply_exchange.specs.Ran.{Lent, Ran, placed, bitsBack};
 
 // Exchanges `width` bytes from a on with those that lie `gap` further on where the bit s is 1: each byte gains or loses the
@@ -46,8 +46,8 @@ fn exchange(blocks: &mut [u8], width: usize, a: usize, gap: usize, s: u8)
 
 // Writes a switch's entry, the log's number e.
 fn write_entry(log: &mut [u16], e: usize, lower: usize, upper: usize)
-    requires { ⌜ (3 * e + 3 ≤ length (now log)) × (lower < 1024) × (upper < 1024) ⌝ }
-    ensures { λ _. ⌜ now (log .exit) ≡ overlay (now (log .entry)) (3 * e) (words (entryOf lower upper ∷ [])) ⌝ }
+    requires { ⌜ (entryWords * (e + 1) ≤ length (now log)) × (lower < 1024) × (upper < 1024) ⌝ }
+    ensures { λ _. ⌜ now (log .exit) ≡ overlay (now (log .entry)) (entryWords * e) (words (entry 7 lower upper ∷ [])) ⌝ }
 {
     let at = 3 * e;
     log[at] = 7;

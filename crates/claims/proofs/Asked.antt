@@ -14,6 +14,7 @@ use Rattle.answers.proofs.Outcomes.{Numbered}
 use Rattle.bits.specs.Bits.{isBit, Bits}
 use Rattle.bits.proofs.Bytes.{bits-all, all-bits}
 use Rattle.counts.specs.Counts.{W, E}
+use Rattle.network.specs.Log.{entryWords}
 use Rattle.permutation.specs.Permutations.{goodEntry, firstBadEntry, IsPermutation}
 use Rattle.permutation.proofs.Permutations.{passes-permutation, permutation-passes}
 use Rattle.apply.specs.Calls.{applyQuestions}
@@ -24,7 +25,7 @@ use Rattle.control.specs.Calls.{setQuestions}
 pub record SetAsked (order bits log : List ℕ) : Type 0 where
   pub small : length order ≤ 1024
   pub bit-count : length bits ≡ W (length order)
-  pub log-room : 3 * E (length order) ≤ length log
+  pub log-room : entryWords * E (length order) ≤ length log
   pub permutation : IsPermutation (length order) order
 
 pub set-asked : (order bits log : List ℕ) → firstNo (setQuestions order bits log) ≡ allYes → SetAsked order bits log
@@ -34,7 +35,7 @@ set-asked order bits log e =
     record {
       small = leb-true n 1024 (Y .0);
       bit-count = eqb-true (length bits) (W n) (Y .1 .0);
-      log-room = leb-true (3 * E n) (length log) (Y .1 .1 .0);
+      log-room = leb-true (entryWords * E n) (length log) (Y .1 .1 .0);
       permutation = passes-permutation order (eqb-true (firstBadEntry order) n (Y .1 .1 .1 .0));
     }
 
@@ -46,7 +47,7 @@ set-passes order bits log A =
       (
         eq-eqb (length bits) (W n) (A .bit-count),
         (
-          le-leb (3 * E n) (length log) (A .log-room),
+          le-leb (entryWords * E n) (length log) (A .log-room),
           (eq-eqb (firstBadEntry order) n (permutation-passes n order (A .permutation)), tt),
         ),
       ),
@@ -63,7 +64,7 @@ pub record ApplyAsked (n width filled : ℕ) (bits : List ℕ) (room : ℕ) : Ty
   pub width-small : width ≤ 256
   pub blocks-fill : filled ≡ n * width
   pub bit-count : length bits ≡ W n
-  pub log-room : 3 * W n ≤ room
+  pub log-room : entryWords * W n ≤ room
   pub are-bits : Bits bits
 
 and-left : (a b : Bool) → a && b ≡ true → a ≡ true
@@ -86,7 +87,7 @@ apply-asked n width filled bits room e =
       width-small = leb-true width 256 (and-right (leb 1 width) (leb width 256) (Y .1 .0));
       blocks-fill = eqb-true filled (n * width) (Y .1 .1 .0);
       bit-count = eqb-true (length bits) (W n) (Y .1 .1 .1 .0);
-      log-room = leb-true (3 * W n) room (Y .1 .1 .1 .1 .0);
+      log-room = leb-true (entryWords * W n) room (Y .1 .1 .1 .1 .0);
       are-bits = bits-all bits (eqb-true bad (length bits) (Y .1 .1 .1 .1 .1 .0));
     }
 
@@ -104,7 +105,7 @@ apply-passes n width filled bits room A =
           (
             eq-eqb (length bits) (W n) (A .bit-count),
             (
-              le-leb (3 * W n) room (A .log-room),
+              le-leb (entryWords * W n) room (A .log-room),
               (eq-eqb bad (length bits) (all-bits bits (A .are-bits)), tt),
             ),
           ),

@@ -16,6 +16,7 @@ use Rattle.network.specs.Blocks.{cut, moved, movedBack}
 use Rattle.network.proofs.Paper.{paper-lawful}
 use Rattle.network.proofs.Blocks.{length-cut}
 use Rattle.network.proofs.Moved.{cut-moved, cut-movedBack, length-moved, movedBack-moved}
+use Rattle.network.specs.Log.{entryWords}
 use Rattle.permutation.specs.Permutations.{IsPermutation}
 use Rattle.canonical.specs.Rule.{Canonical, ExactlyOne}
 use Rattle.canonical.specs.Carry.{Carries, BringsHome}
@@ -45,7 +46,7 @@ module _ (n : ℕ) (order : List ℕ) (small : n ≤ 1024) (O : IsPermutation n 
 
   -- ---- set
 
-  module _ (bits log : List ℕ) (b : length bits ≡ W n) (r : 3 * E n ≤ length log) where
+  module _ (bits log : List ℕ) (b : length bits ≡ W n) (r : entryWords * E n ≤ length log) where
     set-yes : firstNo (questionsOf (set order bits log)) ≡ allYes
     set-yes =
         set-passes order bits log
@@ -98,7 +99,7 @@ module _ (n : ℕ) (order : List ℕ) (small : n ≤ 1024) (O : IsPermutation n 
         rw (return-left .buffer, cut-movedBack paper-lawful n width (house .setting) blocks (F .blocks-fill))
         (canonical-brings-home paper-lawful n order O (house .setting) (house .canonical) [] (cut width n blocks) (length-cut width n blocks) i l)
 
-  returned : (width : ℕ) (blocks log other : List ℕ) → Fits n width blocks log → 3 * W n ≤ length other
+  returned : (width : ℕ) (blocks log other : List ℕ) → Fits n width blocks log → entryWords * W n ≤ length other
       → outcomeOf (return n width (outcomeOf (mix n width blocks (house .setting) log) .buffer) (house .setting) other) .buffer ≡ blocks
   returned width blocks log other F r =
       let mixed = moved paper n width (house .setting) blocks in

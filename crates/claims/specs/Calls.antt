@@ -11,7 +11,7 @@ use Rattle.counts.specs.Counts.{W, E}
 use Rattle.network.specs.Wiring.{paper}
 use Rattle.network.specs.Network.{network}
 use Rattle.network.specs.Blocks.{cut, bytesOf, moved, movedBack}
-use Rattle.network.specs.Log.{entries, runApply, runInverse}
+use Rattle.network.specs.Log.{entryWords, entries, runApply, runInverse}
 use Rattle.canonical.specs.Rule.{Canonical}
 use Rattle.steps.specs.Run.{settingOf}
 use Rattle.apply.specs.Calls.{applyQuestions, applyCall, inverseCall}
@@ -70,7 +70,7 @@ countOf c = outcomeOf c .answer .count
 
 -- the whole log that it wrote: three words for each entry that it reports
 abbrev pub written : Call → List ℕ
-written c = take (3 * countOf c) (outcomeOf c .log)
+written c = take (entryWords * countOf c) (outcomeOf c .log)
 
 -- the count due
 abbrev pub due : Call → ℕ

@@ -19,7 +19,7 @@ use Rattle.answers.proofs.Buffers.{overlay-front}
 use Rattle.bits.specs.Bits.{Bits}
 use Rattle.counts.specs.Counts.{W, byHalves}
 use Rattle.network.specs.Wiring.{paper}
-use Rattle.network.specs.Log.{Entry, words, applyEntries}
+use Rattle.network.specs.Log.{Entry, entryWords, words, applyEntries}
 use Rattle.network.proofs.Shape.{length-words, length-applyEntries}
 use Rattle.permutation.specs.Permutations.{tabulate}
 use Rattle.permutation.proofs.Tables.{is-tabulate}
@@ -42,16 +42,16 @@ unfolding columns words
 columns-at [] bits place e h = absurd (omega arith)
 columns-at (x ∷ es) bits place zero h = refl
 columns-at (x ∷ es) bits place (suc e) h =
-    let a : 3 * suc e + 1 ≡ suc (suc (suc (3 * e + 1))) = omega arith in
-    let b : 3 * suc e + 2 ≡ suc (suc (suc (3 * e + 2))) = omega arith in
+    let a : entryWords * suc e + 1 ≡ suc (suc (suc (entryWords * e + 1))) = omega arith in
+    let b : entryWords * suc e + 2 ≡ suc (suc (suc (entryWords * e + 2))) = omega arith in
     let z : 1 + e ≡ suc e = omega arith in
     let d : getD (drop 1 bits) e 0 ≡ getD bits (suc e) 0 = getD-drop 1 bits e 0 ∙ ap (λ i. getD bits i 0) z in
     columns-at es (drop 1 bits) place e (omega arith)
-    ∙ ap (λ v. mark (getD (words es) (3 * e + 1) 0) (getD (words es) (3 * e + 2) 0) v place) d
+    ∙ ap (λ v. mark (getD (words es) (entryWords * e + 1) 0) (getD (words es) (entryWords * e + 2) 0) v place) d
     ∙ rw (a, b)
 
 module _ (before : List ℕ) (es : List Entry) (bits : List ℕ) (count : length bits ≡ length es) {log : List ℕ} (written : log ≡ overlay before 0 (words es)) where
-  word-in : (i : ℕ) → i < 3 * length es → getD log i 0 ≡ getD (words es) i 0
+  word-in : (i : ℕ) → i < entryWords * length es → getD log i 0 ≡ getD (words es) i 0
   word-in i h =
       ap (λ l. getD l i 0) (written ∙ overlay-front before (words es))
       ∙ List·getD-append (words es) (drop (length (words es)) before) 0 i (omega (arith, length-words es))
@@ -61,7 +61,7 @@ module _ (before : List ℕ) (es : List Entry) (bits : List ℕ) (count : length
       sym
       (is-tabulate (markIn log bits place) (length bits) (columns es bits place) (columns-length es bits place ∙ sym count)
       (λ e h. columns-at es bits place e (omega arith)
-      ∙ sym (rw (word-in (3 * e + 1) (omega arith), word-in (3 * e + 2) (omega arith)))))
+      ∙ sym (rw (word-in (entryWords * e + 1) (omega arith), word-in (entryWords * e + 2) (omega arith)))))
 
   pub rows-in : (n : ℕ) → rowsIn log bits n ≡ rows es bits n
   unfolding rowsIn rows
@@ -101,7 +101,7 @@ picture-in n bits blocks log few count areBits long room e =
     (ap (λ (o : Logged). o .log) (e ∙ apply-accepted n 1 blocks bits log f)) n
 
 -- room in the log for each switch
-pub log-room : (n : ℕ) (bits log : List ℕ) → n ≤ 16 → length bits ≡ W n → length log ≡ 147 → 3 * length bits ≤ length log
+pub log-room : (n : ℕ) (bits log : List ℕ) → n ≤ 16 → length bits ≡ W n → length log ≡ 147 → entryWords * length bits ≤ length log
 log-room n bits log h e l = omega (arith, small n h)
 
 -- how long the text gets: a row is four bytes and one for each switch

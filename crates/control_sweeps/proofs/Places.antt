@@ -17,11 +17,10 @@ use Rattle.answers.specs.Buffers.{overlay}
 use Rattle.answers.specs.Questions.{firstBad}
 use Rattle.answers.proofs.Questions.{bad-within, bad-counts, bad-stops, bad-stays}
 use Rattle.network.specs.Wiring.{paper}
-use Rattle.network.specs.Log.{words}
+use Rattle.network.specs.Log.{entry, words}
 use Rattle.network.specs.Move.{switch}
 use Rattle.steps.specs.Sweeps.{look, seek, store, each, act, marked}
 use Rattle.steps.specs.Steps.{digit}
-use Rattle.steps.specs.Sequence.{entry}
 use Rattle.control_sweeps.specs.Tables.{Below, Within}
 use Rattle.control_sweeps.proofs.Numbers.{digit-small, digit-byte, digit-is, masked, blend}
 

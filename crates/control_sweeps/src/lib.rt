@@ -10,10 +10,9 @@ ghost use lib.Dec.{eqb, ltb};
 ghost use lib.ListN.{length, getD};
 ghost use Rattle.answers.specs.Buffers.{overlay};
 ghost use Rattle.network.specs.Wiring.{paper};
-ghost use Rattle.network.specs.Log.{words};
+ghost use Rattle.network.specs.Log.{entry, entryWords, words};
 ghost use Rattle.steps.specs.Sweeps.{look, seek, store, each, act, noneMarked};
 ghost use Rattle.steps.specs.Steps.{other, digit};
-ghost use Rattle.steps.specs.Sequence.{entry};
 ghost use Rattle.control_sweeps.specs.Tables.{Below, Within, Marked};
 
 // ---- numbers
@@ -299,8 +298,8 @@ pub fn lose_bits(trails: &mut [u16], o: usize, m: usize)
 
 // Entry number e of a setter's log.
 pub fn write_entry(log: &mut [u16], e: usize, kind: u16, o: usize, m: usize)
-    requires { ⌜ (o + m ≤ 1024) × (3 * e + 3 ≤ length (now log)) ⌝ }
-    ensures { λ _. ⌜ now (log .exit) ≡ overlay (now (log .entry)) (3 * e) (words (entry kind o m ∷ [])) ⌝ }
+    requires { ⌜ (o + m ≤ 1024) × (entryWords * (e + 1) ≤ length (now log)) ⌝ }
+    ensures { λ _. ⌜ now (log .exit) ≡ overlay (now (log .entry)) (entryWords * e) (words (entry kind o m ∷ [])) ⌝ }
 {
     let at = 3 * e;
     log[at] = kind;

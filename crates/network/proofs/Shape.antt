@@ -16,7 +16,7 @@ use Rattle.counts.proofs.Rule.{W-none, W-more}
 use Rattle.network.specs.Wiring.{Wiring, Side}
 use Rattle.network.specs.Network.{Network, wires, split, network, networkIn, switchCount, down}
 use Rattle.network.specs.Move.{switch, layer, layerBack, part, joined, forward, backward}
-use Rattle.network.specs.Log.{Entry, words, entries, layerEntries, switches, applyEntries, inverseEntries}
+use Rattle.network.specs.Log.{Entry, entryWords, words, entries, layerEntries, switches, applyEntries, inverseEntries}
 
 pub up+down : (m : ℕ) → up m + down m ≡ m
 up+down m = omega arith
@@ -114,7 +114,7 @@ module _ {A : Type 0} (d : A) where
     pub length-backward : (n : ℕ) (bits : List ℕ) (xs : List A) → length xs ≡ n → length (backward d w (network n) bits xs) ≡ n
     length-backward n bits xs e = length-backward-of (sized n) bits xs e
 
-pub length-words : (es : List Entry) → length (words es) ≡ 3 * length es
+pub length-words : (es : List Entry) → length (words es) ≡ entryWords * length es
 unfolding words
 length-words [] = refl
 length-words (e ∷ es) = omega (arith, length-words es)
@@ -124,8 +124,8 @@ unfolding words
 words-append [] fs = refl
 words-append (e ∷ es) fs = ap (λ (l : List ℕ). e .kind ∷ e .first ∷ e .second ∷ l) (words-append es fs)
 
--- words of entries read again, with fewer than three words more
-pub entries-words-more : (es : List Entry) (rest : List ℕ) → length rest < 3 → entries (words es ++ rest) ≡ es
+-- words of entries read again, with fewer words more than an entry has
+pub entries-words-more : (es : List Entry) (rest : List ℕ) → length rest < entryWords → entries (words es ++ rest) ≡ es
 unfolding words entries
 entries-words-more [] [] h = refl
 entries-words-more [] (a ∷ []) h = refl
@@ -139,8 +139,8 @@ entries-words [] = refl
 entries-words (e ∷ es) = ap (λ (l : List Entry). e ∷ l) (entries-words es)
 
 -- the entries of a log: the words of a buffer, as many as the entries have
-pub entries-take : (es : List Entry) (rest : List ℕ) → entries (take (3 * length es) (words es ++ rest)) ≡ es
-entries-take es rest = rw (take-at (words es) rest (3 * length es) (length-words es)) (entries-words es)
+pub entries-take : (es : List Entry) (rest : List ℕ) → entries (take (entryWords * length es) (words es ++ rest)) ≡ es
+entries-take es rest = rw (take-at (words es) rest (entryWords * length es) (length-words es)) (entries-words es)
 
 module _ (w : Wiring) where
   pub length-layerEntries : (place : Side → ℕ) (c : ℕ) → length (layerEntries w place c) ≡ c

@@ -1,7 +1,7 @@
 use native.Mathlib.Omega.{arith}
 use Prim.Native.Nat.{_*_}
 use lib.ListN.{length-set}
-use Rattle.network.specs.Log.{words}
+use Rattle.network.specs.Log.{entryWords, words}
 use Rattle.apply_exchange.proofs.Bytes.{three}
 use borrow.Author.Needs.{needs}
 use Rattle.apply_exchange.proofs.write_entry.Statement.{statement}
@@ -45,7 +45,7 @@ same-length c = search needs
 
 returns : tie.Need-returns
 unfolding words
-returns c = three (c .args .log .now) (3 * c .args .e) 7 (c .args .lower) (c .args .upper) (c .pre .0)
+returns c = three (c .args .log .now) (entryWords * c .args .e) 7 (c .args .lower) (c .args .upper) (c .pre .0)
 
 pub write-entry-spec : {M : Type 1} → statement M
 write-entry-spec =

@@ -4,6 +4,7 @@ use native.Mathlib.Omega.{arith}
 use borrow.Author.Needs.{needs}
 use Prim.Native.Nat.{_*_}
 use lib.ListN.{length-set}
+use Rattle.network.specs.Log.{entryWords}
 use Rattle.control_sweeps.proofs.Places.{three}
 use Rattle.control_sweeps.proofs.write_entry.Statement.{statement}
 use Rattle.control_sweeps.proofs.write_entry.Tie as tie
@@ -45,7 +46,7 @@ same-length : tie.Need-same-length
 same-length c = search needs
 
 returns : tie.Need-returns
-returns c = three (c .args .log .now) (3 * c .args .e) (c .args .kind) (c .args .o) (c .args .m) (c .pre .1)
+returns c = three (c .args .log .now) (entryWords * c .args .e) (c .args .kind) (c .args .o) (c .args .m) (c .pre .1)
 
 pub write-entry-spec : {M : Type 1} → statement M
 write-entry-spec =
