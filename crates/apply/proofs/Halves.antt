@@ -17,7 +17,7 @@ use Rattle.network.specs.Blocks.{cut}
 use Rattle.network.specs.Log.{Entry, entryWords}
 use Rattle.network.proofs.Blocks.{cut-append, cut-of-take, take-cut, drop-cut}
 use Rattle.apply_exchange.specs.Ran.{Lent, Ran}
-use Rattle.apply_exchange.proofs.Runs.{log-then}
+use Rattle.entry_log.proofs.Written.{log-then}
 
 -- ---- the parts of a slice, lent one after the other and back
 

@@ -9,24 +9,17 @@ use native.Mathlib.Omega.{arith}
 use lib.ListN.{length, drop, getD}
 use lib.Seq.{getD-drop}
 use Rattle.answers.specs.Buffers.{overlay}
-use Rattle.answers.proofs.Buffers.{overlay-none, overlay-then}
+use Rattle.answers.proofs.Buffers.{overlay-none}
 use Rattle.counts.specs.Counts.{up}
 use Rattle.network.specs.Wiring.{paper}
 use Rattle.network.specs.Network.{down}
 use Rattle.network.specs.Move.{switch, layer, layerBack}
 use Rattle.network.specs.Log.{Entry, entry, entryWords, words, layerEntries}
-use Rattle.network.proofs.Shape.{words-append, length-words, length-layerEntries}
+use Rattle.network.proofs.Shape.{length-layerEntries}
+use Rattle.entry_log.proofs.Written.{log-then}
 use Rattle.apply_exchange.specs.Bytes.{bytesSwitched}
 use Rattle.apply_exchange.specs.Ran.{Ran, placed, bitsBack}
 use Rattle.apply_exchange.proofs.Blocks.{cut-switched}
-
--- the log after entries, and after more behind them
-pub log-then : (es fs : List Entry) (e f : ℕ) (l l1 l2 : List ℕ) → e + length es ≡ f → entryWords * f ≤ length l
-    → l1 ≡ overlay l (entryWords * e) (words es) → l2 ≡ overlay l1 (entryWords * f) (words fs)
-    → l2 ≡ overlay l (entryWords * e) (words (es ++ fs))
-log-then es fs e f l l1 l2 h long p q =
-    let at : entryWords * f ≡ entryWords * e + length (words es) = omega (arith, length-words es) in
-    q ∙ rw (p, at, words-append es fs) (overlay-then l (entryWords * e) (words es) (words fs) (omega arith))
 
 module _ (w m : ℕ) where
   -- no switch

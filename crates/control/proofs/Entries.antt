@@ -10,13 +10,14 @@ use native.Mathlib.Omega.{arith}
 use native.Mathlib.Decide.{decLt}
 use lib.ListN.{length, length-append}
 use borrow.Author.Tests.{lt-ltb, le-ltb}
-use Rattle.answers.proofs.Buffers.{overlay-none, overlay-then}
+use Rattle.answers.proofs.Buffers.{overlay-none}
 use Rattle.counts.specs.Counts.{up, W, E}
 use Rattle.counts.proofs.Rule.{W-more, E-none, E-two, E-more}
 use Rattle.network.specs.Wiring.{paper}
 use Rattle.network.specs.Network.{Network, network, switchCount}
 use Rattle.network.specs.Log.{Entry, entry, entryWords, words}
-use Rattle.network.proofs.Shape.{Sized, none, some, network-none, network-more, count-is, length-words, words-append}
+use Rattle.network.proofs.Shape.{Sized, none, some, network-none, network-more, count-is}
+use Rattle.entry_log.proofs.Written.{log-then}
 use Rattle.steps.specs.State.{State, Subnetwork, outputBit}
 use Rattle.steps.specs.Steps.{step4, step5, step6}
 use Rattle.steps.specs.Sequence.{rounds, inputEntries, entriesOf}
@@ -33,12 +34,10 @@ went-none w l = record { count = sym (add-zero (w .e)); bit = sym (add-zero (w .
 pub went-then : {es fs : List Entry} {n p : ℕ} {w r q : Walk} {a b c : List ℕ} → entryWords * (w .e + length es) ≤ length a
     → Went es n w r a b → Went fs p r q b c → Went (es ++ fs) (n + p) w q a c
 went-then {es} {fs} {n} {p} {w} {r} {q} {a} {b} {c} room G H =
-    let lw : length (words es) ≡ entryWords * length es = length-words es in
-    let at : entryWords * r .e ≡ entryWords * w .e + length (words es) = omega (arith, G .count) in
     record {
       count = rw length-append (omega (arith, G .count, H .count));
       bit = omega (arith, G .bit, H .bit);
-      log = H .log ∙ rw (G .log, at, words-append es fs) (overlay-then a (entryWords * w .e) (words es) (words fs) (omega arith));
+      log = log-then es fs (w .e) (r .e) a b c (sym (G .count)) (omega (arith, G .count)) (G .log) (H .log);
     }
 
 -- the same by equal entries and bits

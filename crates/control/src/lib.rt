@@ -209,7 +209,7 @@ pub fn control_bits(order: &[u16], bits: &mut [u8], log: &mut [u16]) -> answers:
     if bits.len() != counts::switches(n) {
         return answers::refuse(4, 0);
     }
-    if log.len() < 3 * counts::entries(n) {
+    if log.len() < entry_log::ENTRY_WORDS * counts::entries(n) {
         return answers::refuse(5, 0);
     }
     let bad = permutation::first_bad_entry(order);

@@ -53,7 +53,7 @@ pub fn step1(vals: &[u16], marks: &[u8], o: usize, m: usize, log: &mut [u16], w:
     let c = control_sweeps::pick(any, w.c, last);
     let g = control_sweeps::look_at(vals, o, m, f);
     let e = w.e;
-    control_sweeps::write_entry(log, e, 1, o, m);
+    entry_log::write_entry(log, e, 1, o, m);
     Walk {
         f,
         c,
@@ -73,7 +73,7 @@ pub fn step2(vals: &[u16], o: usize, m: usize, log: &mut [u16], w: Walk) -> Walk
     let k = ((m + 1) / 2) as u16;
     let s = control_sweeps::seek_for(vals, o, m, control_sweeps::other_of(k, w.g));
     let e = w.e;
-    control_sweeps::write_entry(log, e, 2, o, m);
+    entry_log::write_entry(log, e, 2, o, m);
     Walk {
         f: w.f,
         c: w.c,
@@ -126,7 +126,7 @@ pub fn step3(
         bit as u8,
     );
     let low = control_sweeps::mark_pair(marks, k, pair);
-    control_sweeps::write_entry(log, w.e, 3, o, m);
+    entry_log::write_entry(log, w.e, 3, o, m);
     turn(k as u16, low, w)
 }
 
@@ -150,7 +150,7 @@ pub fn step4(
     control_sweeps::act_on(vals, o, k, k - 1, bits, w.b);
     control_sweeps::act_on(trails, o, k, k - 1, bits, w.b);
     control_sweeps::clear(marks, k);
-    control_sweeps::write_entry(log, w.e, 4, o, m);
+    entry_log::write_entry(log, w.e, 4, o, m);
     passed(w, k - 1)
 }
 
@@ -171,7 +171,7 @@ pub fn step5(
     let k = (m + 1) / 2;
     control_sweeps::gain_bits(trails, o, m, vals, k as u16);
     control_sweeps::lose(vals, o, m, k as u16);
-    control_sweeps::write_entry(log, w.e, 5, o, m);
+    entry_log::write_entry(log, w.e, 5, o, m);
     passed(w, 0)
 }
 
@@ -214,6 +214,6 @@ pub fn step6(
     output_switches(vals, trails, bits, w.b, o, m);
     control_sweeps::regain(vals, o, m, trails, k as u16);
     control_sweeps::lose_bits(trails, o, m);
-    control_sweeps::write_entry(log, w.e, 6, o, m);
+    entry_log::write_entry(log, w.e, 6, o, m);
     passed(w, m - k)
 }

@@ -1,0 +1,22 @@
+// The entries of a log as words. Nothing here is hidden: every entry follows from sizes alone. Public for the crates of the
+// calls and the programs, which know the log's length: so a function may `require` room.
+ghost use mathlib.Core.Path.{_≡_};
+ghost use mathlib.Core.List.{[], _∷_};
+ghost use Prim.Native.Nat.{_+_, _*_, _≤_, _<_};
+ghost use lib.ListN.{length};
+ghost use Rattle.answers.specs.Buffers.{overlay};
+ghost use Rattle.network.specs.Log.{entry, entryWords, words};
+
+// How many words an entry has.
+pub const ENTRY_WORDS: usize = 3;
+
+// Writes the log's entry number e.
+pub fn write_entry(log: &mut [u16], e: usize, kind: u16, first: usize, second: usize)
+    requires { ⌜ (entryWords * (e + 1) ≤ length (now log)) × (first < 65536) × (second < 65536) ⌝ }
+    ensures { λ _. ⌜ now (log .exit) ≡ overlay (now (log .entry)) (entryWords * e) (words (entry kind first second ∷ [])) ⌝ }
+{
+    let at = ENTRY_WORDS * e;
+    log[at] = kind;
+    log[at + 1] = first as u16;
+    log[at + 2] = second as u16;
+}
