@@ -17,6 +17,7 @@ use Rattle.answers.proofs.Outcomes.{Numbered, accepted-when}
 use Rattle.bits.specs.Bits.{isBit, Bits}
 use Rattle.bits.proofs.Bytes.{bits-all, all-bits}
 use Rattle.counts.specs.Counts.{W}
+use Rattle.network.specs.Log.{entryWords}
 use Rattle.apply.specs.Calls.{applyQuestions}
 
 module _ (n width filled : ℕ) (bits : List ℕ) (room : ℕ) where
@@ -48,7 +49,7 @@ module _ (n width filled : ℕ) (bits : List ℕ) (room : ℕ) where
           no4 h = rw (le-leb n 1024 h1, le-leb 1 width h2, le-leb width 256 h2′, eq-eqb filled (n * width) h3, ne-eqb (length bits) (W n) h)
 
           module _ (h4 : length bits ≡ W n) where
-            pub no5 : room < 3 * W n → verdict ≡ noAt 5 0
+            pub no5 : room < entryWords * W n → verdict ≡ noAt 5 0
             unfolding applyQuestions
             no5 h =
                 rw (
@@ -57,10 +58,10 @@ module _ (n width filled : ℕ) (bits : List ℕ) (room : ℕ) where
                   le-leb width 256 h2′,
                   eq-eqb filled (n * width) h3,
                   eq-eqb (length bits) (W n) h4,
-                  lt-leb (3 * W n) room h,
+                  lt-leb (entryWords * W n) room h,
                 )
 
-            module _ (h5 : 3 * W n ≤ room) where
+            module _ (h5 : entryWords * W n ≤ room) where
               last : verdict ≡ firstNo (askEach 7 (isBit bits) (length bits) ∷ [])
               unfolding applyQuestions
               last =
@@ -70,7 +71,7 @@ module _ (n width filled : ℕ) (bits : List ℕ) (room : ℕ) where
                     le-leb width 256 h2′,
                     eq-eqb filled (n * width) h3,
                     eq-eqb (length bits) (W n) h4,
-                    le-leb (3 * W n) room h5,
+                    le-leb (entryWords * W n) room h5,
                   )
 
               pub no7 : (firstBad (isBit bits) (length bits) ≡ length bits → ⊥) → verdict ≡ noAt 7 (firstBad (isBit bits) (length bits))
@@ -90,7 +91,7 @@ pub record Fits (n width filled : ℕ) (bits : List ℕ) (room : ℕ) : Type 0 w
   pub high : width ≤ 256
   pub whole : filled ≡ n * width
   pub count : length bits ≡ W n
-  pub words : 3 * W n ≤ room
+  pub words : entryWords * W n ≤ room
   pub settings : Bits bits
 
 both : (a b : Bool) → (a && b) ≡ true → (a ≡ true) × (b ≡ true)
@@ -108,7 +109,7 @@ passes n width filled bits room e =
       high = leb-true width 256 (sides .1);
       whole = eqb-true filled (n * width) (y .1 .1 .0);
       count = eqb-true (length bits) (W n) (y .1 .1 .1 .0);
-      words = leb-true (3 * W n) room (y .1 .1 .1 .1 .0);
+      words = leb-true (entryWords * W n) room (y .1 .1 .1 .1 .0);
       settings = bits-all bits (eqb-true (firstBad (isBit bits) (length bits)) (length bits) (y .1 .1 .1 .1 .1 .0));
     }
 

@@ -14,10 +14,10 @@ use Rattle.counts.specs.Counts.{W, up}
 use Rattle.counts.proofs.Rule.{W-more}
 use Rattle.network.specs.Network.{down}
 use Rattle.network.specs.Blocks.{cut}
-use Rattle.network.specs.Log.{Entry}
+use Rattle.network.specs.Log.{Entry, entryWords}
 use Rattle.network.proofs.Blocks.{cut-append, cut-of-take, take-cut, drop-cut}
 use Rattle.apply_exchange.specs.Ran.{Lent, Ran}
-use Rattle.apply_exchange.proofs.Runs.{log-then}
+use Rattle.entry_log.proofs.Written.{log-then}
 
 -- ---- the parts of a slice, lent one after the other and back
 
@@ -57,7 +57,7 @@ pub record Sizes (width m o e : ℕ) (bytes bits log : List ℕ) : Type 0 where
   pub rows : up m * width + down m * width ≡ length bytes
   pub places : o + m ≤ 1024
   pub enough : e + W m ≤ length bits
-  pub room : 3 * (e + W m) ≤ length log
+  pub room : entryWords * (e + W m) ≤ length log
   pub short : length bits < 2 ^ 64
 
 pub sizes : {width m o e : ℕ} {bytes bits log : List ℕ} → 2 ≤ m → length bits < 2 ^ 64 → Lent width m o (W m) e bytes bits log → Sizes width m o e bytes bits log
@@ -100,7 +100,7 @@ module _ (w k h : ℕ) where
       cut-append w k h x y long
       ∙ rw (p, q, cut-of-take w k b, take-cut w k (k + h) b (omega arith), drop-cut w k h b)
 
-  module _ {f g : List (List ℕ) → List (List ℕ)} {es fs : List Entry} {e e′ : ℕ} {b l x y l1 l2 : List ℕ} (long : length x ≡ k * w) (room : 3 * e′ ≤ length l) where
+  module _ {f g : List (List ℕ) → List (List ℕ)} {es fs : List Entry} {e e′ : ℕ} {b l x y l1 l2 : List ℕ} (long : length x ≡ k * w) (room : entryWords * e′ ≤ length l) where
     pub ran-beside : e + length es ≡ e′ → Ran w k f es e (take (k * w) b) l x l1 → Ran w h g fs e′ (drop (k * w) b) l1 y l2
         → Ran w (k + h) (beside k f g) (es ++ fs) e b l (x ++ y) l2
     ran-beside at r s =

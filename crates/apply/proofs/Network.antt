@@ -13,7 +13,7 @@ use Rattle.counts.proofs.Rule.{W-none}
 use Rattle.network.specs.Wiring.{Side, paper}
 use Rattle.network.specs.Network.{network, networkIn, down}
 use Rattle.network.specs.Move.{layer, layerBack, part, joined, forward, backward}
-use Rattle.network.specs.Log.{Entry, switches, layerEntries}
+use Rattle.network.specs.Log.{Entry, entryWords, layerEntries, switches}
 use Rattle.network.specs.Blocks.{cut}
 use Rattle.network.proofs.Shape.{up+down, network-none, network-more, count-is, length-layer, length-layerBack, length-forward, length-backward, length-layerEntries, length-switches}
 use Rattle.network.proofs.Paper.{part-top, part-bottom, joined-paper}
@@ -100,7 +100,7 @@ module _ (m : ℕ) (two : 2 ≤ m) where
     -- a layer, the halves, a layer
     stages : {rule f mid g : Blocks → Blocks} {es fs ms gs : List Entry} {e e1 e3 : ℕ} {b l b1 l1 b2 l3 out l4 : List ℕ}
         → ((xs : Blocks) → length xs ≡ m → rule xs ≡ g (mid (f xs))) → es ≡ fs ++ (ms ++ gs)
-        → e + length fs ≡ e1 → e1 + length ms ≡ e3 → 3 * e3 ≤ length l → length l1 ≡ length l
+        → e + length fs ≡ e1 → e1 + length ms ≡ e3 → entryWords * e3 ≤ length l → length l1 ≡ length l
         → Ran w m f fs e b l b1 l1 → Ran w m mid ms e1 b1 l1 b2 l3 → Ran w m g gs e3 b2 l3 out l4
         → Ran w m rule es e b l out l4
     stages {rule} {f} {mid} {g} {es} {fs} {ms} {gs} {e} {e1} {e3} {b} {l} {b1} {l1} rule-is all at1 at3 room long r s t =
@@ -110,7 +110,7 @@ module _ (m : ℕ) (two : 2 ≤ m) where
           logged = rw all (run .logged);
         }
 
-    module _ (o : ℕ) (bits : List ℕ) {e e1 e2 e3 : ℕ} {b l b1 l1 x l2 y l3 out l4 : List ℕ} (top : length x ≡ up m * w) (long : length l1 ≡ length l) (room : 3 * e3 ≤ length l) where
+    module _ (o : ℕ) (bits : List ℕ) {e e1 e2 e3 : ℕ} {b l b1 l1 x l2 y l3 out l4 : List ℕ} (top : length x ≡ up m * w) (long : length l1 ≡ length l) (room : entryWords * e3 ≤ length l) where
       pub applied : e1 ≡ e + (up m - 1) → e2 ≡ e1 + W (up m) → e3 ≡ e2 + W (down m)
           → Ran w m (layer [] paper (up m) (up m - 1) (drop e bits)) (layerEntries paper (placed o m) (up m - 1)) e b l b1 l1
           → Ran w (up m) (forward [] paper (network (up m)) (drop e1 bits)) (switches paper (network (up m)) (λ i. o + i)) e1 (take (up m * w) b1) l1 x l2

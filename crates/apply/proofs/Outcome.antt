@@ -14,7 +14,7 @@ use Rattle.answers.proofs.Questions.{each-yes, yes-each}
 use Rattle.counts.specs.Counts.{W}
 use Rattle.network.specs.Wiring.{paper}
 use Rattle.network.specs.Blocks.{moved, movedBack}
-use Rattle.network.specs.Log.{words, applyEntries, inverseEntries}
+use Rattle.network.specs.Log.{entryWords, words, applyEntries, inverseEntries}
 use Rattle.network.proofs.Paper.{paper-lawful}
 use Rattle.network.proofs.Moved.{length-moved, length-movedBack, movedBack-moved}
 use Rattle.apply.specs.Calls.{applyQuestions, applyCall, inverseCall}
@@ -56,7 +56,7 @@ module _ (n width : ℕ) (b bits l : List ℕ) where
         (fit-passes f) (length-movedBack paper-lawful n width bits b (f .whole) ∙ sym (f .whole))
 
 -- what was mixed and returned under the same bits is as it was
-pub returned-home : (n width : ℕ) (b bits l l′ : List ℕ) → Fits n width (length b) bits (length l) → 3 * W n ≤ length l′
+pub returned-home : (n width : ℕ) (b bits l l′ : List ℕ) → Fits n width (length b) bits (length l) → entryWords * W n ≤ length l′
     → inverseCall n width (applyCall n width b bits l .buffer) bits l′ .buffer ≡ b
 returned-home n width b bits l l′ f room =
     let b′ = moved paper n width bits b in

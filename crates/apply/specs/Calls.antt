@@ -11,7 +11,7 @@ use Rattle.bits.specs.Bits.{isBit}
 use Rattle.counts.specs.Counts.{W}
 use Rattle.network.specs.Wiring.{paper}
 use Rattle.network.specs.Blocks.{moved, movedBack}
-use Rattle.network.specs.Log.{words, applyEntries, inverseEntries}
+use Rattle.network.specs.Log.{entryWords, words, applyEntries, inverseEntries}
 
 -- questions 1, 2, 3, 4, 5, 7: of n, the block width, the number of bytes that the blocks fill, the bits, and the number of
 -- words that the log has
@@ -21,7 +21,7 @@ applyQuestions n width filled bits room =
     ∷ ask 2 0 (leb 1 width && leb width 256)
     ∷ ask 3 0 (eqb filled (n * width))
     ∷ ask 4 0 (eqb (length bits) (W n))
-    ∷ ask 5 0 (leb (3 * W n) room)
+    ∷ ask 5 0 (leb (entryWords * W n) room)
     ∷ askEach 7 (isBit bits) (length bits)
     ∷ []
 

@@ -35,7 +35,7 @@ fn ask(n: usize, width: usize, filled: usize, bits: &[u8], room: usize) -> answe
     if bits.len() != due {
         return answers::refuse(4, 0);
     }
-    if room < 3 * due {
+    if room < entry_log::ENTRY_WORDS * due {
         return answers::refuse(5, 0);
     }
     let bad = bits::first_bad_bit(bits);

@@ -2,15 +2,14 @@
 -- Assumes nothing.
 use mathlib.Core.Path.{_≡_, refl, sym, ap, _∙_}
 use mathlib.Core.Bool.{Bool, true, false, cond}
-use mathlib.Core.List.{List, [], _∷_, _++_, append-assoc, append-nil}
+use mathlib.Core.List.{List}
 use Prim.Native.Nat.{ℕ, zero, suc, _+_, _-_, _*_, _^_, _%_, _≤_, _<_}
 use native.Mathlib.Nat.{mod-eq-of-lt, add-comm}
 use native.Mathlib.Numerals.{add-one}
 use native.Mathlib.Omega.{arith}
 use lib.Bits.{bitAnd, and-mask, and-zero-r}
-use lib.ListN.{length, take, drop, getD, set, length-set, length-append}
-use lib.Seq.{set-comm, set-getD, sets-eq}
-use Rattle.answers.specs.Buffers.{overlay}
+use lib.ListN.{getD, set}
+use lib.Seq.{set-comm, set-getD}
 use Rattle.network.specs.Move.{switch}
 use Rattle.apply_exchange.specs.Bytes.{bytesSwitched}
 
@@ -58,10 +57,3 @@ byte-more s a gap j before now x′ y′ h apart e p =
         rw (p .lower, p .upper, add-one j, bytesSwitched, switch)
         (ap (λ l. set (set l (a + j) (getD l (a + j + gap) 0)) (a + j + gap) (getD l (a + j) 0)) e)
     go (suc (suc s)) h e p = absurd (omega arith)
-
--- an entry's three words
-pub three : (l : List ℕ) (at a b c : ℕ) → at + 3 ≤ length l → set (set (set l at a) (at + 1) b) (at + 2) c ≡ overlay l at (a ∷ b ∷ c ∷ [])
-unfolding overlay
-three l at a b c h =
-    let two : at + 2 ≡ suc (suc at) = omega arith in
-    rw (add-one, two) (sets-eq (a ∷ b ∷ c ∷ []) l at h ∙ append-assoc (take at l) (a ∷ b ∷ c ∷ []) (drop (at + 3) l))

@@ -9,40 +9,34 @@ use native.Mathlib.Omega.{arith}
 use lib.ListN.{length, drop, getD}
 use lib.Seq.{getD-drop}
 use Rattle.answers.specs.Buffers.{overlay}
-use Rattle.answers.proofs.Buffers.{overlay-none, overlay-then}
+use Rattle.answers.proofs.Buffers.{overlay-none}
 use Rattle.counts.specs.Counts.{up}
 use Rattle.network.specs.Wiring.{paper}
 use Rattle.network.specs.Network.{down}
 use Rattle.network.specs.Move.{switch, layer, layerBack}
-use Rattle.network.specs.Log.{Entry, words, layerEntries}
-use Rattle.network.proofs.Shape.{words-append, length-words, length-layerEntries}
-use Rattle.apply_exchange.specs.Bytes.{bytesSwitched, entryOf}
+use Rattle.network.specs.Log.{Entry, entry, entryWords, words, layerEntries}
+use Rattle.network.proofs.Shape.{length-layerEntries}
+use Rattle.entry_log.proofs.Written.{log-then}
+use Rattle.apply_exchange.specs.Bytes.{bytesSwitched}
 use Rattle.apply_exchange.specs.Ran.{Ran, placed, bitsBack}
 use Rattle.apply_exchange.proofs.Blocks.{cut-switched}
-
--- the log after entries, and after more behind them
-pub log-then : (es fs : List Entry) (e f : ℕ) (l l1 l2 : List ℕ) → e + length es ≡ f → 3 * f ≤ length l
-    → l1 ≡ overlay l (3 * e) (words es) → l2 ≡ overlay l1 (3 * f) (words fs) → l2 ≡ overlay l (3 * e) (words (es ++ fs))
-log-then es fs e f l l1 l2 h long p q =
-    let at : 3 * f ≡ 3 * e + length (words es) = omega (arith, length-words es) in
-    q ∙ rw (p, at, words-append es fs) (overlay-then l (3 * e) (words es) (words fs) (omega arith))
 
 module _ (w m : ℕ) where
   -- no switch
   pub ran-none : (e : ℕ) (b l : List ℕ) → Ran w m (λ xs. xs) [] e b l b l
   unfolding words
-  ran-none e b l = record { blocks = refl; logged = sym (overlay-none l (3 * e)) }
+  ran-none e b l = record { blocks = refl; logged = sym (overlay-none l (entryWords * e)) }
 
   -- one: switch i of a layer
   pub ran-one : (o i s e : ℕ) (b l b′ l′ : List ℕ) → i < down m → m * w ≡ length b
-      → b′ ≡ bytesSwitched (i * w) (up m * w) s w b → l′ ≡ overlay l (3 * e) (words (entryOf (o + i) (o + (up m + i)) ∷ []))
-      → Ran w m (switch [] i (up m + i) s) (entryOf (o + i) (o + (up m + i)) ∷ []) e b l b′ l′
+      → b′ ≡ bytesSwitched (i * w) (up m * w) s w b → l′ ≡ overlay l (entryWords * e) (words (entry 7 (o + i) (o + (up m + i)) ∷ []))
+      → Ran w m (switch [] i (up m + i) s) (entry 7 (o + i) (o + (up m + i)) ∷ []) e b l b′ l′
   ran-one o i s e b l b′ l′ h long f g =
       record { blocks = rw f (cut-switched w m (up m) i s b (omega arith) (omega arith) long); logged = g }
 
   -- some, and some more
   pub ran-then : {f g : List (List ℕ) → List (List ℕ)} {es fs : List Entry} {e e′ : ℕ} {b l b1 l1 b2 l2 : List ℕ}
-      → e + length es ≡ e′ → 3 * e′ ≤ length l
+      → e + length es ≡ e′ → entryWords * e′ ≤ length l
       → Ran w m f es e b l b1 l1 → Ran w m g fs e′ b1 l1 b2 l2 → Ran w m (λ xs. g (f xs)) (es ++ fs) e b l b2 l2
   ran-then {f} {g} {es} {fs} {e} {e′} {b} {l} {b1} {l1} {b2} {l2} h long r s =
       record { blocks = s .blocks ∙ ap g (r .blocks); logged = log-then es fs e e′ l l1 l2 h long (r .logged) (s .logged) }
@@ -56,8 +50,9 @@ module _ (w m : ℕ) where
     unfolding layer layerEntries
     first-none = ran-none e b l
 
-    pub first-more : (i : ℕ) (b1 l1 b2 l2 : List ℕ) → i < down m → m * w ≡ length b1 → 3 * (e + i) ≤ length l → First i b1 l1
-        → b2 ≡ bytesSwitched (i * w) (up m * w) (getD bits (e + i) 0) w b1 → l2 ≡ overlay l1 (3 * (e + i)) (words (entryOf (o + i) (o + (up m + i)) ∷ []))
+    pub first-more : (i : ℕ) (b1 l1 b2 l2 : List ℕ) → i < down m → m * w ≡ length b1 → entryWords * (e + i) ≤ length l → First i b1 l1
+        → b2 ≡ bytesSwitched (i * w) (up m * w) (getD bits (e + i) 0) w b1
+        → l2 ≡ overlay l1 (entryWords * (e + i)) (words (entry 7 (o + i) (o + (up m + i)) ∷ []))
         → First (i + 1) b2 l2
     unfolding layer layerEntries
     first-more i b1 l1 b2 l2 h long room r f g =
@@ -78,14 +73,14 @@ module _ (w m : ℕ) where
       leads-all b′ l′ r = r
 
       -- the next switch to act is j
-      pub leads-more : (i j to : ℕ) (b1 l1 b2 l2 : List ℕ) → i ≡ suc j → j < down m → m * w ≡ length b1 → 3 * (to + 1) ≤ length l1
+      pub leads-more : (i j to : ℕ) (b1 l1 b2 l2 : List ℕ) → i ≡ suc j → j < down m → m * w ≡ length b1 → entryWords * (to + 1) ≤ length l1
           → Leads i to b1 l1 → b2 ≡ bytesSwitched (j * w) (up m * w) (getD bits (length bits - (e + c) + j) 0) w b1
-          → l2 ≡ overlay l1 (3 * to) (words (entryOf (o + j) (o + (up m + j)) ∷ []))
+          → l2 ≡ overlay l1 (entryWords * to) (words (entry 7 (o + j) (o + (up m + j)) ∷ []))
           → Leads j (to + 1) b2 l2
       unfolding layerBack layerEntries
       leads-more i j to b1 l1 b2 l2 next h long room lead f g b′ l′ rest =
           let bit : getD bits (length bits - (e + c) + j) 0 ≡ getD (bitsBack bits e c) j 0 = sym (getD-drop (length bits - (e + c)) bits j 0) in
-          let one = entryOf (o + j) (o + (up m + j)) in
+          let one = entry 7 (o + j) (o + (up m + j)) in
           let es = layerEntries paper (placed o m) j in
           let last : reverse (es ++ (one ∷ [])) ≡ one ∷ reverse es = reverse-append es (one ∷ []) in
           lead b′ l′

@@ -9,7 +9,7 @@ use Rattle.bits.specs.Bits.{Bits}
 use Rattle.counts.specs.Counts.{up}
 use Rattle.network.specs.Wiring.{Side, paper}
 use Rattle.network.specs.Blocks.{cut}
-use Rattle.network.specs.Log.{Entry, words}
+use Rattle.network.specs.Log.{Entry, entryWords, words}
 
 -- What is lent for `count` switches of the network of m places from place o, whose entries stand in the log from entry
 -- number e on: m blocks, and bits and log for e + count entries.
@@ -19,14 +19,14 @@ pub record Lent (width m o count e : ℕ) (bytes bits log : List ℕ) : Type 0 w
   pub narrow : width ≤ 256
   pub whole : m * width ≡ length bytes
   pub enough : e + count ≤ length bits
-  pub room : 3 * (e + count) ≤ length log
+  pub room : entryWords * (e + count) ≤ length log
   pub settings : Bits bits
 
 -- The m blocks of `width` bytes are moved by `rule`, and the entries `es` stand in the log from entry number e on; the rest
 -- of the log is kept. `bytes` and `log` are the buffers before, `bytes′` and `log′` after.
 pub record Ran (width m : ℕ) (rule : List (List ℕ) → List (List ℕ)) (es : List Entry) (e : ℕ) (bytes log bytes′ log′ : List ℕ) : Type 0 where
   pub blocks : cut width m bytes′ ≡ rule (cut width m bytes)
-  pub logged : log′ ≡ overlay log (3 * e) (words es)
+  pub logged : log′ ≡ overlay log (entryWords * e) (words es)
 
 -- where a side of the network of m places from place o lies in the whole network
 abbrev pub placed : ℕ → ℕ → Side → ℕ

@@ -1,16 +1,15 @@
 // A switch and a layer of switches on lent blocks, each switch with its log entry. The bits and the bytes of the blocks are
 // secret: every byte of both blocks of a switch is read and written, whatever the bit; no branch and no index depends on them.
 ghost use mathlib.Core.Path.{_≡_};
-ghost use mathlib.Core.List.{[], _∷_, reverse};
+ghost use mathlib.Core.List.{[], reverse};
 ghost use Prim.Native.Nat.{_<_, _≤_, _+_, _*_};
 ghost use lib.ListN.{length, drop};
-ghost use Rattle.answers.specs.Buffers.{overlay};
 ghost use Rattle.counts.specs.Counts.{up};
 ghost use Rattle.network.specs.Wiring.{paper};
 ghost use Rattle.network.specs.Network.{down};
 ghost use Rattle.network.specs.Move.{layer, layerBack};
-ghost use Rattle.network.specs.Log.{words, layerEntries};
-ghost use Rattle.apply_exchange.specs.Bytes.{bytesSwitched, entryOf};
+ghost use Rattle.network.specs.Log.{layerEntries};
+ghost use Rattle.apply_exchange.specs.Bytes.{bytesSwitched};
 ghost use Rattle.apply_exchange.specs.Ran.{Lent, Ran, placed, bitsBack};
 
 // Exchanges `width` bytes from a on with those that lie `gap` further on where the bit s is 1: each byte gains or loses the
@@ -44,17 +43,6 @@ fn exchange(blocks: &mut [u8], width: usize, a: usize, gap: usize, s: u8)
     }
 }
 
-// Writes a switch's entry, the log's number e.
-fn write_entry(log: &mut [u16], e: usize, lower: usize, upper: usize)
-    requires { ⌜ (3 * e + 3 ≤ length (now log)) × (lower < 1024) × (upper < 1024) ⌝ }
-    ensures { λ _. ⌜ now (log .exit) ≡ overlay (now (log .entry)) (3 * e) (words (entryOf lower upper ∷ [])) ⌝ }
-{
-    let at = 3 * e;
-    log[at] = 7;
-    log[at + 1] = lower as u16;
-    log[at + 2] = upper as u16;
-}
-
 // The first c switches of a layer of the network of m places from o, first to last: switch i on the places i and k + i,
 // under bit e + i, logged as entry e + i. Public for the crate `apply` only, whose calls have asked their questions before:
 // so it `requires` what they have settled.
@@ -79,7 +67,7 @@ pub fn layer(
     let mut i = 0;
     while i < c {
         exchange(blocks, width, i * width, gap, bits[e + i]);
-        write_entry(log, e + i, o + i, o + (k + i));
+        entry_log::write_entry(log, e + i, 7, o + i, o + (k + i));
         i += 1;
     }
 }
@@ -114,7 +102,7 @@ pub fn layer_back(
         i -= 1;
         a = (a + 262144 - width) % 262144;
         exchange(blocks, width, a, gap, bits[first + i]);
-        write_entry(log, to, o + i, o + (k + i));
+        entry_log::write_entry(log, to, 7, o + i, o + (k + i));
         to += 1;
     }
 }

@@ -10,6 +10,7 @@ use Rattle.answers.specs.Questions.{allYes, firstNo}
 use Rattle.answers.proofs.Questions.{each-yes, yes-each}
 use Rattle.answers.proofs.Outcomes.{Numbered}
 use Rattle.counts.specs.Counts.{W, E}
+use Rattle.network.specs.Log.{entryWords}
 use Rattle.permutation.specs.Permutations.{firstBadEntry, IsPermutation}
 use Rattle.permutation.proofs.Permutations.{passes-permutation, permutation-passes}
 use Rattle.control.specs.Calls.{setQuestions}
@@ -17,7 +18,7 @@ use Rattle.control.specs.Calls.{setQuestions}
 pub record SetAsked (order bits log : List ℕ) : Type 0 where
   pub small : length order ≤ 1024
   pub bit-count : length bits ≡ W (length order)
-  pub log-room : 3 * E (length order) ≤ length log
+  pub log-room : entryWords * E (length order) ≤ length log
   pub permutation : IsPermutation (length order) order
 
 pub set-asked : (order bits log : List ℕ) → firstNo (setQuestions order bits log) ≡ allYes → SetAsked order bits log
@@ -27,7 +28,7 @@ set-asked order bits log e =
     record {
       small = leb-true n 1024 (Y .0);
       bit-count = eqb-true (length bits) (W n) (Y .1 .0);
-      log-room = leb-true (3 * E n) (length log) (Y .1 .1 .0);
+      log-room = leb-true (entryWords * E n) (length log) (Y .1 .1 .0);
       permutation = passes-permutation order (eqb-true (firstBadEntry order) n (Y .1 .1 .1 .0));
     }
 
@@ -39,7 +40,7 @@ set-passes order bits log A =
       (
         eq-eqb (length bits) (W n) (A .bit-count),
         (
-          le-leb (3 * E n) (length log) (A .log-room),
+          le-leb (entryWords * E n) (length log) (A .log-room),
           (eq-eqb (firstBadEntry order) n (permutation-passes n order (A .permutation)), tt),
         ),
       ),

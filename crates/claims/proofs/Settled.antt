@@ -10,13 +10,13 @@ use Rattle.answers.specs.Questions.{Verdict, allYes}
 use Rattle.answers.specs.Buffers.{overlay}
 use Rattle.answers.specs.Outcomes.{Logged, settledLogged}
 use Rattle.answers.proofs.Buffers.{overlay-whole, overlay-read}
-use Rattle.network.specs.Log.{Entry, words}
+use Rattle.network.specs.Log.{Entry, entryWords, words}
 use Rattle.network.proofs.Shape.{length-words}
 
 -- the count, the words, and what stands in the buffer and the log
 pub record Left (c : ℕ) (result : List ℕ) (es : List Entry) (log : List ℕ) (L : Logged) : Type 0 where
   pub answer : L .answer ≡ accepted c
-  pub words-are : take (3 * L .answer .count) (L .log) ≡ words es
+  pub words-are : take (entryWords * L .answer .count) (L .log) ≡ words es
   pub log-is : L .log ≡ overlay log 0 (words es)
   pub buffer : L .buffer ≡ result
 
@@ -27,7 +27,7 @@ left v c result b es log e n r =
     (record {
       answer = refl;
       words-are =
-          ap (λ (i : ℕ). take i (overlay log 0 (words es))) (let z : 3 * c ≡ length (words es) = omega (arith, length-words es) in z)
+          ap (λ (i : ℕ). take i (overlay log 0 (words es))) (let z : entryWords * c ≡ length (words es) = omega (arith, length-words es) in z)
           ∙ overlay-read log (words es);
       log-is = refl;
       buffer = overlay-whole b result r;

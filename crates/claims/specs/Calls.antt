@@ -11,7 +11,7 @@ use Rattle.counts.specs.Counts.{W, E}
 use Rattle.network.specs.Wiring.{paper}
 use Rattle.network.specs.Network.{network}
 use Rattle.network.specs.Blocks.{cut, bytesOf, moved, movedBack}
-use Rattle.network.specs.Log.{Entry, entries, applyEntries, inverseEntries, runApply, runInverse}
+use Rattle.network.specs.Log.{Entry, entryWords, entries, applyEntries, inverseEntries, runApply, runInverse}
 use Rattle.canonical.specs.Rule.{Canonical}
 use Rattle.steps.specs.Sequence.{setEntries}
 use Rattle.steps.specs.Run.{settingOf}
@@ -130,4 +130,4 @@ due c = countDue (described c .kind) (described c .places)
 
 -- the whole log that it wrote: three words for each entry that it reports
 abbrev pub written : Call → List ℕ
-written c = take (3 * countOf c) (outcomeOf c .log)
+written c = take (entryWords * countOf c) (outcomeOf c .log)

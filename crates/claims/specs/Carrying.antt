@@ -11,6 +11,7 @@ use Rattle.bits.specs.Bits.{Bits}
 use Rattle.counts.specs.Counts.{W, E}
 use Rattle.network.specs.Wiring.{paper}
 use Rattle.network.specs.Blocks.{cut}
+use Rattle.network.specs.Log.{entryWords}
 use Rattle.canonical.specs.Rule.{ExactlyOne}
 use Rattle.sheets.specs.Sheet.{sheet}
 use Rattle.sheets.specs.Calls.{writeSheet, readSheet}
@@ -33,10 +34,10 @@ pub record Filled (n width : ℕ) (blocks : List ℕ) : Type 0 where
 
 -- lent logs: three words for each entry of the setter, or for each switch
 abbrev pub RoomToSet : ℕ → List ℕ → Type 0
-RoomToSet n log = 3 * E n ≤ length log
+RoomToSet n log = entryWords * E n ≤ length log
 
 abbrev pub RoomToMove : ℕ → List ℕ → Type 0
-RoomToMove n log = 3 * W n ≤ length log
+RoomToMove n log = entryWords * W n ≤ length log
 
 pub record Demand2 (n : ℕ) (order : List ℕ) : Type 0 where
   -- one setting of the order is canonical, and no other

@@ -7,6 +7,7 @@ use Rattle.answers.specs.declared.Answer.{Answer}
 use Rattle.answers.specs.Answers.{refusal, accepted}
 use Rattle.answers.specs.Outcomes.{Outcome, outcome, Logged, logged}
 use Rattle.counts.specs.Counts.{W, E}
+use Rattle.network.specs.Log.{entryWords}
 use Rattle.sheets.specs.Calls.{writeSheet, readSheet}
 use Rattle.shuffle.specs.Shuffled.{shuffleCall}
 use Rattle.claims.specs.Calls.{Call, set, mix, return, outcomeOf}
@@ -44,13 +45,13 @@ both a b = record { answers = a .answers ++ b .answers; buffers = a .buffers ++ 
 abbrev pub runCase : Case → Result
 runCase (sets order setting sheet) =
     both
-    (ofLogged (outcomeOf (set order (lent (W (length order))) (lent (3 * E (length order))))))
+    (ofLogged (outcomeOf (set order (lent (W (length order))) (lent (entryWords * E (length order))))))
     (ofOutcome (writeSheet (length order) setting (lent (length sheet))))
-runCase (mixes setting blocks result) = ofLogged (outcomeOf (mix (length blocks) 1 blocks setting (lent (3 * length setting))))
-runCase (returns setting blocks result) = ofLogged (outcomeOf (return (length blocks) 1 blocks setting (lent (3 * length setting))))
+runCase (mixes setting blocks result) = ofLogged (outcomeOf (mix (length blocks) 1 blocks setting (lent (entryWords * length setting))))
+runCase (returns setting blocks result) = ofLogged (outcomeOf (return (length blocks) 1 blocks setting (lent (entryWords * length setting))))
 runCase (draws words order) = ofOutcome (shuffleCall (length words) words (lent (length order)))
 runCase (refusesOrder order number place) =
-    let o = outcomeOf (set order (lent (W (length order))) (lent (3 * E (length order)))) in
+    let o = outcomeOf (set order (lent (W (length order))) (lent (entryWords * E (length order)))) in
     record { answers = o .answer ∷ []; buffers = o .buffer ∷ o .log ∷ [] }
 runCase (refusesSheet sheet number place) = ofOutcome (readSheet sheet (lent 9))
 
@@ -61,7 +62,7 @@ expected (mixes setting blocks result) = record { answers = accepted (length set
 expected (returns setting blocks result) = record { answers = accepted (length setting) ∷ []; buffers = result ∷ [] }
 expected (draws words order) = record { answers = accepted (length words) ∷ []; buffers = order ∷ [] }
 expected (refusesOrder order number place) =
-    record { answers = refusal number place ∷ []; buffers = lent (W (length order)) ∷ lent (3 * E (length order)) ∷ [] }
+    record { answers = refusal number place ∷ []; buffers = lent (W (length order)) ∷ lent (entryWords * E (length order)) ∷ [] }
 expected (refusesSheet sheet number place) = record { answers = refusal number place ∷ []; buffers = lent 9 ∷ [] }
 
 -- case g's setting

@@ -4,6 +4,7 @@ ghost use Prim.Native.Nat.{_+_, _*_, _≤_, _<_};
 ghost use lib.ListN.{length};
 ghost use Rattle.bits.specs.Bits.{Bits};
 ghost use Rattle.counts.specs.Counts.{W};
+ghost use Rattle.network.specs.Log.{entryWords};
 ghost use Rattle.sheets.specs.Inner.{Put};
 ghost use Rattle.cmd_picture.specs.Picture.{mark, highDigit, label, picture};
 ghost use Rattle.cmd_picture.specs.Inner.{columnsIn, rowIn, rowsIn};
@@ -16,13 +17,13 @@ pub fn put_picture(out: &mut [u8], at: usize, n: usize, bits: &[u8]) -> usize
     ensures { λ r. ⌜ Put (now (out .entry)) at (picture n (now (bits .entry))) r (now (out .exit)) ⌝ }
 {
     let mut blocks = [0u8; 16];
-    let mut log = [0u16; 147];
+    let mut log = [0u16; entry_log::ENTRY_WORDS * 49];
     apply::apply(n, 1, &mut blocks[..n], bits, &mut log);
     put_rows(out, at, n, bits, &log)
 }
 
 fn put_rows(out: &mut [u8], at: usize, n: usize, bits: &[u8], log: &[u16]) -> usize
-    requires { ⌜ (n ≤ 100) × (3 * length (now bits) ≤ length (now log))
+    requires { ⌜ (n ≤ 100) × (entryWords * length (now bits) ≤ length (now log))
         × (at + length (rowsIn (now log) (now bits) n) ≤ length (now out)) ⌝ }
     ensures { λ r. ⌜ Put (now (out .entry)) at (rowsIn (now (log .entry)) (now (bits .entry)) n) r (now (out .exit)) ⌝ }
 {
@@ -36,7 +37,7 @@ fn put_rows(out: &mut [u8], at: usize, n: usize, bits: &[u8], log: &[u16]) -> us
 }
 
 fn put_row(out: &mut [u8], at: usize, place: usize, bits: &[u8], log: &[u16]) -> usize
-    requires { ⌜ (place < 100) × (3 * length (now bits) ≤ length (now log))
+    requires { ⌜ (place < 100) × (entryWords * length (now bits) ≤ length (now log))
         × (at + length (rowIn (now log) (now bits) place) ≤ length (now out)) ⌝ }
     ensures { λ r. ⌜ Put (now (out .entry)) at (rowIn (now (log .entry)) (now (bits .entry)) place) r (now (out .exit)) ⌝ }
 {
@@ -65,14 +66,14 @@ fn tens(place: usize) -> u8
 }
 
 fn put_columns(out: &mut [u8], at: usize, place: usize, bits: &[u8], log: &[u16]) -> usize
-    requires { ⌜ (3 * length (now bits) ≤ length (now log))
+    requires { ⌜ (entryWords * length (now bits) ≤ length (now log))
         × (at + length (columnsIn (now log) (now bits) place) ≤ length (now out)) ⌝ }
     ensures { λ r. ⌜ Put (now (out .entry)) at (columnsIn (now (log .entry)) (now (bits .entry)) place) r (now (out .exit)) ⌝ }
 {
     let mut e = 0;
     while e < bits.len() {
-        let lower = wide(log[3 * e + 1]);
-        let upper = wide(log[3 * e + 2]);
+        let lower = entry_log::first_of(log, e);
+        let upper = entry_log::second_of(log, e);
         out[at + e] = mark_at(lower, upper, bits[e], place);
         e += 1;
     }
@@ -95,10 +96,4 @@ fn mark_at(lower: usize, upper: usize, bit: u8, place: usize) -> u8
         return b'-';
     }
     b'|'
-}
-
-fn wide(x: u16) -> usize
-    ensures { λ r. ⌜ r ≡ x ⌝ }
-{
-    x as usize
 }

@@ -17,7 +17,7 @@ use Rattle.answers.proofs.Outcomes.{logged-refused, logged-accepted}
 use Rattle.answers.proofs.Buffers.{overlay-whole}
 use Rattle.counts.specs.Counts.{W, E}
 use Rattle.network.specs.Wiring.{paper}
-use Rattle.network.specs.Log.{words}
+use Rattle.network.specs.Log.{entryWords, words}
 use Rattle.permutation.specs.Permutations.{goodEntry, firstBadEntry}
 use Rattle.permutation.proofs.Permutations.{passes-permutation}
 use Rattle.steps.specs.Sequence.{setEntries}
@@ -40,7 +40,7 @@ module _ (order bits log : List ℕ) where
   from-6 = askEach 6 (goodEntry (length order) order) (length order) ∷ []
 
   from-5 : List Question
-  from-5 = ask 5 0 (leb (3 * E (length order)) (length log)) ∷ from-6
+  from-5 = ask 5 0 (leb (entryWords * E (length order)) (length log)) ∷ from-6
 
   from-4 : List Question
   from-4 = ask 4 0 (eqb (length bits) (W (length order))) ∷ from-5
@@ -63,14 +63,18 @@ module _ (order bits log : List ℕ) where
       unfolding from-4
       past-4 = past-1 ∙ asked-yes 4 0 (eqb (length bits) (W (length order))) from-5 (eq-eqb (length bits) (W (length order)) h₄)
 
-      pub no-5 : length log < 3 * E (length order) → firstNo (setQuestions order bits log) ≡ noAt 5 0
+      pub no-5 : length log < entryWords * E (length order) → firstNo (setQuestions order bits log) ≡ noAt 5 0
       unfolding from-5
-      no-5 h = past-4 ∙ asked-no 5 0 (leb (3 * E (length order)) (length log)) from-6 (lt-leb (3 * E (length order)) (length log) h)
+      no-5 h =
+          let due = entryWords * E (length order) in
+          past-4 ∙ asked-no 5 0 (leb due (length log)) from-6 (lt-leb due (length log) h)
 
-      module _ (h₅ : 3 * E (length order) ≤ length log) where
+      module _ (h₅ : entryWords * E (length order) ≤ length log) where
         past-5 : firstNo (setQuestions order bits log) ≡ firstNo from-6
         unfolding from-5
-        past-5 = past-4 ∙ asked-yes 5 0 (leb (3 * E (length order)) (length log)) from-6 (le-leb (3 * E (length order)) (length log) h₅)
+        past-5 =
+            let due = entryWords * E (length order) in
+            past-4 ∙ asked-yes 5 0 (leb due (length log)) from-6 (le-leb due (length log) h₅)
 
         pub no-6 : (firstBadEntry order ≡ length order → ⊥) → firstNo (setQuestions order bits log) ≡ noAt 6 (firstBadEntry order)
         unfolding from-6

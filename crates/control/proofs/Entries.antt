@@ -10,16 +10,17 @@ use native.Mathlib.Omega.{arith}
 use native.Mathlib.Decide.{decLt}
 use lib.ListN.{length, length-append}
 use borrow.Author.Tests.{lt-ltb, le-ltb}
-use Rattle.answers.proofs.Buffers.{overlay-none, overlay-then}
+use Rattle.answers.proofs.Buffers.{overlay-none}
 use Rattle.counts.specs.Counts.{up, W, E}
 use Rattle.counts.proofs.Rule.{W-more, E-none, E-two, E-more}
 use Rattle.network.specs.Wiring.{paper}
 use Rattle.network.specs.Network.{Network, network, switchCount}
-use Rattle.network.specs.Log.{Entry, words}
-use Rattle.network.proofs.Shape.{Sized, none, some, network-none, network-more, count-is, length-words, words-append}
+use Rattle.network.specs.Log.{Entry, entry, entryWords, words}
+use Rattle.network.proofs.Shape.{Sized, none, some, network-none, network-more, count-is}
+use Rattle.entry_log.proofs.Written.{log-then}
 use Rattle.steps.specs.State.{State, Subnetwork, outputBit}
 use Rattle.steps.specs.Steps.{step4, step5, step6}
-use Rattle.steps.specs.Sequence.{entry, rounds, inputEntries, entriesOf}
+use Rattle.steps.specs.Sequence.{rounds, inputEntries, entriesOf}
 use Rattle.steps.specs.Fold.{roundsOf, inputSteps, setNet}
 use Rattle.control_steps.specs.declared.Walk.{Walk}
 use Rattle.control_steps.specs.Walks.{within, Went}
@@ -27,18 +28,16 @@ use Rattle.control.proofs.Bounds.{further}
 
 pub went-none : (w : Walk) (l : List ℕ) → Went [] 0 w w l l
 unfolding words
-went-none w l = record { count = sym (add-zero (w .e)); bit = sym (add-zero (w .b)); log = sym (overlay-none l (3 * w .e)) }
+went-none w l = record { count = sym (add-zero (w .e)); bit = sym (add-zero (w .b)); log = sym (overlay-none l (entryWords * w .e)) }
 
 -- one part, and another behind it
-pub went-then : {es fs : List Entry} {n p : ℕ} {w r q : Walk} {a b c : List ℕ} → 3 * (w .e + length es) ≤ length a → Went es n w r a b
-    → Went fs p r q b c → Went (es ++ fs) (n + p) w q a c
+pub went-then : {es fs : List Entry} {n p : ℕ} {w r q : Walk} {a b c : List ℕ} → entryWords * (w .e + length es) ≤ length a
+    → Went es n w r a b → Went fs p r q b c → Went (es ++ fs) (n + p) w q a c
 went-then {es} {fs} {n} {p} {w} {r} {q} {a} {b} {c} room G H =
-    let lw : length (words es) ≡ 3 * length es = length-words es in
-    let at : 3 * r .e ≡ 3 * w .e + length (words es) = omega (arith, G .count) in
     record {
       count = rw length-append (omega (arith, G .count, H .count));
       bit = omega (arith, G .bit, H .bit);
-      log = H .log ∙ rw (G .log, at, words-append es fs) (overlay-then a (3 * w .e) (words es) (words fs) (omega arith));
+      log = log-then es fs (w .e) (r .e) a b c (sym (G .count)) (omega (arith, G .count)) (G .log) (H .log);
     }
 
 -- the same by equal entries and bits

@@ -11,7 +11,7 @@ use Rattle.answers.specs.Buffers.{overlay}
 use Rattle.counts.specs.Counts.{up, W, E}
 use Rattle.network.specs.Wiring.{paper}
 use Rattle.network.specs.Network.{network}
-use Rattle.network.specs.Log.{words}
+use Rattle.network.specs.Log.{entryWords, words}
 use Rattle.network.proofs.Paper.{paper-lawful}
 use Rattle.network.proofs.Shape.{sized}
 use Rattle.steps.specs.Sweeps.{each}
@@ -112,7 +112,8 @@ sets-whole order vs ts ms bs bits log bits′ log′ vs′ ts′ ms′ r e₁ e�
 
 -- and the room that it starts with
 pub room-start : (order vs ts ms bs log : List ℕ) → length order ≤ 1024 → length vs ≡ length order → ts ≡ replicate {A = ℕ} (length order) 0
-    → ms ≡ replicate {A = ℕ} (up (length order)) 0 → length bs ≡ W (length order) → length bs ≤ 9217 → 3 * E (length order) ≤ length log
+    → ms ≡ replicate {A = ℕ} (up (length order)) 0 → length bs ≡ W (length order) → length bs ≤ 9217
+    → entryWords * E (length order) ≤ length log
     → Room 0 (length order) still vs ts ms bs log
 room-start order vs ts ms bs log h lv et em lb few ll =
     let n : ℕ = length order in

@@ -9,11 +9,11 @@ use lib.ListN.{length, length-append}
 use Rattle.counts.specs.Counts.{up, W, E}
 use Rattle.network.specs.Wiring.{paper}
 use Rattle.network.specs.Network.{network}
-use Rattle.network.specs.Log.{Entry}
+use Rattle.network.specs.Log.{Entry, entry, entryWords}
 use Rattle.network.proofs.Shape.{sized}
 use Rattle.steps.specs.State.{State, outputBit}
 use Rattle.steps.specs.Steps.{step5, step6}
-use Rattle.steps.specs.Sequence.{entry, inputEntries, entriesOf}
+use Rattle.steps.specs.Sequence.{inputEntries, entriesOf}
 use Rattle.steps.specs.Fold.{inputSteps, setNet}
 use Rattle.control_sweeps.specs.Tables.{Below}
 use Rattle.control_steps.specs.declared.Walk.{Walk}
@@ -131,7 +131,7 @@ module _ (o m : ℕ) (w : Walk) (vs ts ms bs l : List ℕ) (two : 2 ≤ m) (R : 
 
         -- what step 6 asks
         pub asks-six : (2 ≤ m) × (o + m ≤ 1024) × (o + m ≤ length vs₃) × (o + m ≤ length ts₃) × (z .b + (m - up m) ≤ length bs₃)
-            × (3 * z .e + 3 ≤ length l₃) × Below 2 bs₃ × Below 32768 vs₃
+            × (entryWords * (z .e + 1) ≤ length l₃) × Below 2 bs₃ × Below 32768 vs₃
         asks-six = (
           two,
           R .places,

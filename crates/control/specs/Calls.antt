@@ -8,7 +8,7 @@ use Rattle.answers.specs.Questions.{Question, ask, askEach, firstNo}
 use Rattle.answers.specs.Outcomes.{Logged, settledLogged}
 use Rattle.counts.specs.Counts.{W, E}
 use Rattle.network.specs.Wiring.{paper}
-use Rattle.network.specs.Log.{words}
+use Rattle.network.specs.Log.{entryWords, words}
 use Rattle.permutation.specs.Permutations.{goodEntry}
 use Rattle.steps.specs.Sequence.{setEntries}
 use Rattle.steps.specs.Setting.{settingFor}
@@ -18,7 +18,7 @@ abbrev pub setQuestions : List ℕ → List ℕ → List ℕ → List Question
 setQuestions order bits log =
     ask 1 0 (leb (length order) 1024)
     ∷ ask 4 0 (eqb (length bits) (W (length order)))
-    ∷ ask 5 0 (leb (3 * E (length order)) (length log))
+    ∷ ask 5 0 (leb (entryWords * E (length order)) (length log))
     ∷ askEach 6 (goodEntry (length order) order) (length order)
     ∷ []
 

@@ -7,7 +7,7 @@ use lib.ListN.{length, getD}
 use Rattle.answers.specs.Buffers.{overlay}
 use Rattle.counts.specs.Counts.{up, W, E}
 use Rattle.network.specs.Wiring.{paper}
-use Rattle.network.specs.Log.{words}
+use Rattle.network.specs.Log.{entryWords, words}
 use Rattle.steps.specs.State.{State}
 use Rattle.steps.specs.Sequence.{setEntries}
 use Rattle.steps.specs.Setting.{settingFor}
@@ -22,7 +22,7 @@ pub record Room (o m : ℕ) (w : Walk) (values trails marks bits log : List ℕ)
   pub marks-room : up m ≤ length marks
   pub bits-room : w .b + W m ≤ length bits
   pub few : w .b + W m ≤ 9217
-  pub log-room : 3 * (w .e + E m) ≤ length log
+  pub log-room : entryWords * (w .e + E m) ≤ length log
 
 -- hidden numbers are small, so that no sum of 16 bits overflows: values are below v, marks and bits are 0 or 1
 pub record Tidy (v : ℕ) (x : State) : Type 0 where

@@ -8,8 +8,9 @@ ghost use Rattle.answers.specs.Outcomes.{logged};
 ghost use Rattle.counts.specs.Counts.{up, W, E};
 ghost use Rattle.network.specs.Wiring.{paper};
 ghost use Rattle.network.specs.Network.{network};
+ghost use Rattle.network.specs.Log.{entry, entryWords};
 ghost use Rattle.steps.specs.Steps.{step5};
-ghost use Rattle.steps.specs.Sequence.{entry, rounds, inputEntries, entriesOf};
+ghost use Rattle.steps.specs.Sequence.{rounds, inputEntries, entriesOf};
 ghost use Rattle.steps.specs.Fold.{roundsOf, inputSteps, setNet};
 ghost use Rattle.control_sweeps.specs.Tables.{Below};
 ghost use Rattle.control_steps.specs.Walks.{state, within, Went};
@@ -26,7 +27,9 @@ fn round(
     log: &mut [u16],
     w: control_steps::Walk,
 ) -> control_steps::Walk
-    requires { ⌜ (2 ≤ m) × (o + m ≤ 1024) × (o + m ≤ length (now vals)) × (up m ≤ length (now marks)) × (w .b + up m ≤ length (now bits)) × (3 * w .e + 9 ≤ length (now log)) × Tidy 32768 (state (now vals) [] (now marks) (now bits) w) ⌝ }
+    requires { ⌜ (2 ≤ m) × (o + m ≤ 1024) × (o + m ≤ length (now vals)) × (up m ≤ length (now marks))
+        × (w .b + up m ≤ length (now bits)) × (entryWords * (w .e + 3) ≤ length (now log))
+        × Tidy 32768 (state (now vals) [] (now marks) (now bits) w) ⌝ }
     ensures { λ r. ⌜ Went (entry 1 o m ∷ entry 2 o m ∷ entry 3 o m ∷ []) 0 w r (now (log .entry)) (now (log .exit)) × ((ts : List ℕ) → state (now (vals .entry)) ts (now (marks .exit)) (now (bits .exit)) r ≡ roundsOf paper (within o m (w .b)) 1 (state (now (vals .entry)) ts (now (marks .entry)) (now (bits .entry)) w)) ⌝ }
 {
     let x = control_steps::step1(vals, marks, o, m, log, w);
@@ -44,7 +47,9 @@ fn rounds(
     log: &mut [u16],
     w: control_steps::Walk,
 ) -> control_steps::Walk
-    requires { ⌜ (2 ≤ m) × (o + m ≤ 1024) × (o + m ≤ length (now vals)) × (up m ≤ length (now marks)) × (w .b + up m ≤ length (now bits)) × (3 * (w .e + 3 * up m) ≤ length (now log)) × Tidy 32768 (state (now vals) [] (now marks) (now bits) w) ⌝ }
+    requires { ⌜ (2 ≤ m) × (o + m ≤ 1024) × (o + m ≤ length (now vals)) × (up m ≤ length (now marks))
+        × (w .b + up m ≤ length (now bits)) × (entryWords * (w .e + 3 * up m) ≤ length (now log))
+        × Tidy 32768 (state (now vals) [] (now marks) (now bits) w) ⌝ }
     ensures { λ r. ⌜ Went (rounds (up m) o m) 0 w r (now (log .entry)) (now (log .exit)) × ((ts : List ℕ) → state (now (vals .entry)) ts (now (marks .exit)) (now (bits .exit)) r ≡ roundsOf paper (within o m (w .b)) (up m) (state (now (vals .entry)) ts (now (marks .entry)) (now (bits .entry)) w)) ⌝ }
 {
     let k = (m + 1) / 2;
@@ -142,7 +147,10 @@ fn set_table(
     bits: &mut [u8],
     log: &mut [u16],
 ) -> usize
-    requires { ⌜ (length (now order) ≤ 1024) × Below 1024 (now order) × (length (now vals) ≡ length (now order)) × (now trails ≡ replicate (length (now order)) 0) × (now marks ≡ replicate (up (length (now order))) 0) × (length (now bits) ≡ W (length (now order))) × (length (now bits) ≤ 9217) × (3 * E (length (now order)) ≤ length (now log)) ⌝ }
+    requires { ⌜ (length (now order) ≤ 1024) × Below 1024 (now order) × (length (now vals) ≡ length (now order))
+        × (now trails ≡ replicate (length (now order)) 0) × (now marks ≡ replicate (up (length (now order))) 0)
+        × (length (now bits) ≡ W (length (now order))) × (length (now bits) ≤ 9217)
+        × (entryWords * E (length (now order)) ≤ length (now log)) ⌝ }
     ensures { λ r. ⌜ Sets (now (order .entry)) (now (log .entry)) r (now (bits .exit)) (now (log .exit)) ⌝ }
 {
     let n = order.len();
@@ -172,7 +180,8 @@ fn set_table(
 // The setter after its questions: sets an order, logs, and counts the entries. Public for the crates that set orders of which
 // the questions are known to get a yes.
 pub fn set_order(order: &[u16], bits: &mut [u8], log: &mut [u16]) -> usize
-    requires { ⌜ (length (now order) ≤ 1024) × Below 1024 (now order) × (length (now bits) ≡ W (length (now order))) × (length (now bits) ≤ 9217) × (3 * E (length (now order)) ≤ length (now log)) ⌝ }
+    requires { ⌜ (length (now order) ≤ 1024) × Below 1024 (now order) × (length (now bits) ≡ W (length (now order)))
+        × (length (now bits) ≤ 9217) × (entryWords * E (length (now order)) ≤ length (now log)) ⌝ }
     ensures { λ r. ⌜ Sets (now (order .entry)) (now (log .entry)) r (now (bits .exit)) (now (log .exit)) ⌝ }
 {
     let n = order.len();
@@ -201,7 +210,7 @@ pub fn control_bits(order: &[u16], bits: &mut [u8], log: &mut [u16]) -> answers:
     if bits.len() != counts::switches(n) {
         return answers::refuse(4, 0);
     }
-    if log.len() < 3 * counts::entries(n) {
+    if log.len() < entry_log::ENTRY_WORDS * counts::entries(n) {
         return answers::refuse(5, 0);
     }
     let bad = permutation::first_bad_entry(order);

@@ -13,11 +13,10 @@ use Rattle.answers.specs.Buffers.{overlay}
 use Rattle.answers.proofs.Questions.{bad-within}
 use Rattle.counts.specs.Counts.{up}
 use Rattle.network.specs.Wiring.{paper}
-use Rattle.network.specs.Log.{words}
+use Rattle.network.specs.Log.{entry, entryWords, words}
 use Rattle.steps.specs.Sweeps.{look, seek, store, each, act, marked, noneMarked}
 use Rattle.steps.specs.State.{State, outputBit}
 use Rattle.steps.specs.Steps.{other, digit, step1, step2, step3, step4, step5, step6}
-use Rattle.steps.specs.Sequence.{entry}
 use Rattle.control_sweeps.specs.Tables.{Marked}
 use Rattle.control_sweeps.proofs.Numbers.{digit-is, other-digit, pairs}
 use Rattle.control_steps.specs.declared.Walk.{Walk}
@@ -28,7 +27,7 @@ abbrev pub onward : ℕ → Walk → Walk
 onward n w = record { f = w .f; c = w .c; g = w .g; s = w .s; e = w .e + 1; b = w .b + n }
 
 pub went-one : (kind o m n : ℕ) (w r : Walk) (before after : List ℕ) → r .e ≡ w .e + 1 → r .b ≡ w .b + n
-    → after ≡ overlay before (3 * w .e) (words (entry kind o m ∷ [])) → Went (entry kind o m ∷ []) n w r before after
+    → after ≡ overlay before (entryWords * w .e) (words (entry kind o m ∷ [])) → Went (entry kind o m ∷ []) n w r before after
 went-one kind o m n w r before after e b l = record { count = omega (arith, e); bit = b; log = l }
 
 -- both factors are bits: the product says that both are 1

@@ -9,7 +9,7 @@ use lib.ListN.{length, getD}
 use Rattle.answers.specs.Buffers.{overlay}
 use Rattle.counts.specs.Counts.{up}
 use Rattle.network.specs.Wiring.{paper}
-use Rattle.network.specs.Log.{Entry, words}
+use Rattle.network.specs.Log.{Entry, entryWords, words}
 use Rattle.steps.specs.Sweeps.{each, act}
 use Rattle.steps.specs.State.{State, Subnetwork}
 use Rattle.steps.specs.Steps.{other}
@@ -35,7 +35,7 @@ turned k low w =
 pub record Went (entries : List Entry) (n : ℕ) (w r : Walk) (before after : List ℕ) : Type 0 where
   pub count : r .e ≡ w .e + length entries
   pub bit : r .b ≡ w .b + n
-  pub log : after ≡ overlay before (3 * w .e) (words entries)
+  pub log : after ≡ overlay before (entryWords * w .e) (words entries)
 
 -- the first part of step 6: the output bits from b on, and what their switches did
 pub record Switched (o m b : ℕ) (values trails bits values′ trails′ bits′ : List ℕ) : Type 0 where

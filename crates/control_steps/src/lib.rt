@@ -8,9 +8,9 @@ ghost use Prim.Native.Nat.{ℕ, _+_, _*_, _-_, _≤_, _<_};
 ghost use lib.ListN.{length};
 ghost use Rattle.counts.specs.Counts.{up};
 ghost use Rattle.network.specs.Wiring.{paper};
+ghost use Rattle.network.specs.Log.{entry, entryWords};
 ghost use Rattle.steps.specs.State.{outputBit};
 ghost use Rattle.steps.specs.Steps.{step1, step2, step3, step4, step5, step6};
-ghost use Rattle.steps.specs.Sequence.{entry};
 ghost use Rattle.control_sweeps.specs.Tables.{Below, Within};
 ghost use Rattle.control_steps.specs.declared.Walk.{Walk};
 ghost use Rattle.control_steps.specs.Walks.{state, within, turned, Went, Switched};
@@ -42,7 +42,8 @@ fn passed(w: Walk, n: usize) -> Walk
 
 // 1. If no pair is marked, f = c = k-1. Then g is the value at f.
 pub fn step1(vals: &[u16], marks: &[u8], o: usize, m: usize, log: &mut [u16], w: Walk) -> Walk
-    requires { ⌜ (2 ≤ m) × (o + m ≤ 1024) × (o + m ≤ length (now vals)) × (up m ≤ length (now marks)) × (3 * w .e + 3 ≤ length (now log)) × Below 32768 (now vals) × Below 2 (now marks) × (w .f < 32768) ⌝ }
+    requires { ⌜ (2 ≤ m) × (o + m ≤ 1024) × (o + m ≤ length (now vals)) × (up m ≤ length (now marks))
+        × (entryWords * (w .e + 1) ≤ length (now log)) × Below 32768 (now vals) × Below 2 (now marks) × (w .f < 32768) ⌝ }
     ensures { λ r. ⌜ Went (entry 1 o m ∷ []) 0 w r (now (log .entry)) (now (log .exit)) × ((ts bs : List ℕ) (bit : ℕ) → state (now (vals .entry)) ts (now (marks .entry)) bs r ≡ step1 paper (within o m bit) (state (now (vals .entry)) ts (now (marks .entry)) bs w)) ⌝ }
 {
     let k = (m + 1) / 2;
@@ -52,7 +53,7 @@ pub fn step1(vals: &[u16], marks: &[u8], o: usize, m: usize, log: &mut [u16], w:
     let c = control_sweeps::pick(any, w.c, last);
     let g = control_sweeps::look_at(vals, o, m, f);
     let e = w.e;
-    control_sweeps::write_entry(log, e, 1, o, m);
+    entry_log::write_entry(log, e, 1, o, m);
     Walk {
         f,
         c,
@@ -65,13 +66,14 @@ pub fn step1(vals: &[u16], marks: &[u8], o: usize, m: usize, log: &mut [u16], w:
 
 // 2. s is the place that holds g's associate.
 pub fn step2(vals: &[u16], o: usize, m: usize, log: &mut [u16], w: Walk) -> Walk
-    requires { ⌜ (2 ≤ m) × (o + m ≤ 1024) × (o + m ≤ length (now vals)) × (3 * w .e + 3 ≤ length (now log)) × Below 32768 (now vals) × (w .g < 32768) ⌝ }
+    requires { ⌜ (2 ≤ m) × (o + m ≤ 1024) × (o + m ≤ length (now vals)) × (entryWords * (w .e + 1) ≤ length (now log))
+        × Below 32768 (now vals) × (w .g < 32768) ⌝ }
     ensures { λ r. ⌜ Went (entry 2 o m ∷ []) 0 w r (now (log .entry)) (now (log .exit)) × ((ts ms bs : List ℕ) (bit : ℕ) → state (now (vals .entry)) ts ms bs r ≡ step2 paper (within o m bit) (state (now (vals .entry)) ts ms bs w)) ⌝ }
 {
     let k = ((m + 1) / 2) as u16;
     let s = control_sweeps::seek_for(vals, o, m, control_sweeps::other_of(k, w.g));
     let e = w.e;
-    control_sweeps::write_entry(log, e, 2, o, m);
+    entry_log::write_entry(log, e, 2, o, m);
     Walk {
         f: w.f,
         c: w.c,
@@ -109,7 +111,8 @@ pub fn step3(
     log: &mut [u16],
     w: Walk,
 ) -> Walk
-    requires { ⌜ (2 ≤ m) × (o + m ≤ 1024) × (up m ≤ length (now marks)) × (w .b + up m ≤ length (now bits)) × (3 * w .e + 3 ≤ length (now log)) × Below 2 (now marks) × (w .s < 32768) × (w .c < 32768) ⌝ }
+    requires { ⌜ (2 ≤ m) × (o + m ≤ 1024) × (up m ≤ length (now marks)) × (w .b + up m ≤ length (now bits))
+        × (entryWords * (w .e + 1) ≤ length (now log)) × Below 2 (now marks) × (w .s < 32768) × (w .c < 32768) ⌝ }
     ensures { λ r. ⌜ Went (entry 3 o m ∷ []) 0 w r (now (log .entry)) (now (log .exit)) × ((vs ts : List ℕ) → state vs ts (now (marks .exit)) (now (bits .exit)) r ≡ step3 paper (within o m (w .b)) (state vs ts (now (marks .entry)) (now (bits .entry)) w)) ⌝ }
 {
     let k = (m + 1) / 2;
@@ -123,7 +126,7 @@ pub fn step3(
         bit as u8,
     );
     let low = control_sweeps::mark_pair(marks, k, pair);
-    control_sweeps::write_entry(log, w.e, 3, o, m);
+    entry_log::write_entry(log, w.e, 3, o, m);
     turn(k as u16, low, w)
 }
 
@@ -138,14 +141,16 @@ pub fn step4(
     log: &mut [u16],
     w: Walk,
 ) -> Walk
-    requires { ⌜ (2 ≤ m) × (o + m ≤ 1024) × (o + m ≤ length (now vals)) × (o + m ≤ length (now trails)) × (up m ≤ length (now marks)) × (w .b + (up m - 1) ≤ length (now bits)) × (3 * w .e + 3 ≤ length (now log)) × Below 2 (now bits) ⌝ }
+    requires { ⌜ (2 ≤ m) × (o + m ≤ 1024) × (o + m ≤ length (now vals)) × (o + m ≤ length (now trails))
+        × (up m ≤ length (now marks)) × (w .b + (up m - 1) ≤ length (now bits)) × (entryWords * (w .e + 1) ≤ length (now log))
+        × Below 2 (now bits) ⌝ }
     ensures { λ r. ⌜ Went (entry 4 o m ∷ []) (up m - 1) w r (now (log .entry)) (now (log .exit)) × (state (now (vals .exit)) (now (trails .exit)) (now (marks .exit)) (now (bits .entry)) r ≡ step4 paper (within o m (w .b)) (state (now (vals .entry)) (now (trails .entry)) (now (marks .entry)) (now (bits .entry)) w)) ⌝ }
 {
     let k = (m + 1) / 2;
     control_sweeps::act_on(vals, o, k, k - 1, bits, w.b);
     control_sweeps::act_on(trails, o, k, k - 1, bits, w.b);
     control_sweeps::clear(marks, k);
-    control_sweeps::write_entry(log, w.e, 4, o, m);
+    entry_log::write_entry(log, w.e, 4, o, m);
     passed(w, k - 1)
 }
 
@@ -158,13 +163,15 @@ pub fn step5(
     log: &mut [u16],
     w: Walk,
 ) -> Walk
-    requires { ⌜ (2 ≤ m) × (o + m ≤ 1024) × (o + m ≤ length (now vals)) × (o + m ≤ length (now trails)) × (w .b < 18446744073709551616) × (3 * w .e + 3 ≤ length (now log)) × Below 32768 (now vals) × Within o m 32768 (now trails) ⌝ }
+    requires { ⌜ (2 ≤ m) × (o + m ≤ 1024) × (o + m ≤ length (now vals)) × (o + m ≤ length (now trails))
+        × (w .b < 18446744073709551616) × (entryWords * (w .e + 1) ≤ length (now log)) × Below 32768 (now vals)
+        × Within o m 32768 (now trails) ⌝ }
     ensures { λ r. ⌜ Went (entry 5 o m ∷ []) 0 w r (now (log .entry)) (now (log .exit)) × ((ms bs : List ℕ) (bit : ℕ) → state (now (vals .exit)) (now (trails .exit)) ms bs r ≡ step5 paper (within o m bit) (state (now (vals .entry)) (now (trails .entry)) ms bs w)) ⌝ }
 {
     let k = (m + 1) / 2;
     control_sweeps::gain_bits(trails, o, m, vals, k as u16);
     control_sweeps::lose(vals, o, m, k as u16);
-    control_sweeps::write_entry(log, w.e, 5, o, m);
+    entry_log::write_entry(log, w.e, 5, o, m);
     passed(w, 0)
 }
 
@@ -198,13 +205,15 @@ pub fn step6(
     log: &mut [u16],
     w: Walk,
 ) -> Walk
-    requires { ⌜ (2 ≤ m) × (o + m ≤ 1024) × (o + m ≤ length (now vals)) × (o + m ≤ length (now trails)) × (w .b + (m - up m) ≤ length (now bits)) × (3 * w .e + 3 ≤ length (now log)) × Below 2 (now bits) × Below 32768 (now vals) ⌝ }
+    requires { ⌜ (2 ≤ m) × (o + m ≤ 1024) × (o + m ≤ length (now vals)) × (o + m ≤ length (now trails))
+        × (w .b + (m - up m) ≤ length (now bits)) × (entryWords * (w .e + 1) ≤ length (now log)) × Below 2 (now bits)
+        × Below 32768 (now vals) ⌝ }
     ensures { λ r. ⌜ Went (entry 6 o m ∷ []) (m - up m) w r (now (log .entry)) (now (log .exit)) × ((ms : List ℕ) (bit : ℕ) → w .b ≡ outputBit (within o m bit) → state (now (vals .exit)) (now (trails .exit)) ms (now (bits .exit)) r ≡ step6 paper (within o m bit) (state (now (vals .entry)) (now (trails .entry)) ms (now (bits .entry)) w)) ⌝ }
 {
     let k = (m + 1) / 2;
     output_switches(vals, trails, bits, w.b, o, m);
     control_sweeps::regain(vals, o, m, trails, k as u16);
     control_sweeps::lose_bits(trails, o, m);
-    control_sweeps::write_entry(log, w.e, 6, o, m);
+    entry_log::write_entry(log, w.e, 6, o, m);
     passed(w, m - k)
 }

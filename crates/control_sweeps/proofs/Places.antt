@@ -2,7 +2,7 @@
 -- Assumes nothing.
 use mathlib.Core.Path.{_≡_, refl, sym, ap, _∙_}
 use mathlib.Core.Bool.{Bool, true, false, not, cond}
-use mathlib.Core.List.{List, [], _∷_, append-assoc}
+use mathlib.Core.List.{List}
 use Prim.Native.Nat.{ℕ, zero, suc, _+_, _-_, _*_, _%_, _≤_, _<_}
 use native.Mathlib.Numerals.{add-one}
 use native.Mathlib.Omega.{arith}
@@ -10,18 +10,15 @@ use native.Mathlib.Decide.{ℕ-discrete, decLt}
 use mir.Val.{boolByte}
 use lib.Bits.{bitAnd, bitOr, or-zero-r, or-zero-l}
 use lib.Dec.{ltb, eqb}
-use lib.ListN.{length, getD, set, take, drop}
-use lib.Seq.{getD-set-same, getD-set-other, set-getD, sets-eq}
+use lib.ListN.{length, getD, set}
+use lib.Seq.{getD-set-same, getD-set-other, set-getD}
 use borrow.Author.Tests.{lt-ltb, le-ltb, eq-eqb, ne-eqb}
-use Rattle.answers.specs.Buffers.{overlay}
 use Rattle.answers.specs.Questions.{firstBad}
 use Rattle.answers.proofs.Questions.{bad-within, bad-counts, bad-stops, bad-stays}
 use Rattle.network.specs.Wiring.{paper}
-use Rattle.network.specs.Log.{words}
 use Rattle.network.specs.Move.{switch}
 use Rattle.steps.specs.Sweeps.{look, seek, store, each, act, marked}
 use Rattle.steps.specs.Steps.{digit}
-use Rattle.steps.specs.Sequence.{entry}
 use Rattle.control_sweeps.specs.Tables.{Below, Within}
 use Rattle.control_sweeps.proofs.Numbers.{digit-small, digit-byte, digit-is, masked, blend}
 
@@ -320,12 +317,3 @@ act-step o k i s at bits xs x₀ b p q t e = rw (add-one i, act, switch, p, q, �
         ≡ cond d (set (set xs (o + i) (getD xs (o + (k + i)) 0)) (o + (k + i)) (getD xs (o + i) 0)) xs
     go true = refl
     go false = rw (set-getD xs (o + i) 0) (set-getD xs (o + (k + i)) 0)
-
--- ---- the log
-
-pub three : (l : List ℕ) (at kind o m : ℕ) → at + 3 ≤ length l
-    → set (set (set l at kind) (at + 1) o) (at + 2) m ≡ overlay l at (words (entry kind o m ∷ []))
-unfolding overlay words
-three l at kind o m h =
-    let two : at + 2 ≡ suc (suc at) = omega arith in
-    rw (add-one, two) (sets-eq (kind ∷ o ∷ m ∷ []) l at h ∙ append-assoc (take at l) (kind ∷ o ∷ m ∷ []) (drop (at + 3) l))

@@ -4,16 +4,12 @@
 // have asked their questions before: so it may `require` sizes.
 ghost use mathlib.Core.Path.{_≡_};
 ghost use mathlib.Core.Bool.{not, cond};
-ghost use mathlib.Core.List.{[], _∷_};
 ghost use Prim.Native.Nat.{_+_, _*_, _-_, _/_, _%_, _≤_, _<_};
 ghost use lib.Dec.{eqb, ltb};
 ghost use lib.ListN.{length, getD};
-ghost use Rattle.answers.specs.Buffers.{overlay};
 ghost use Rattle.network.specs.Wiring.{paper};
-ghost use Rattle.network.specs.Log.{words};
 ghost use Rattle.steps.specs.Sweeps.{look, seek, store, each, act, noneMarked};
 ghost use Rattle.steps.specs.Steps.{other, digit};
-ghost use Rattle.steps.specs.Sequence.{entry};
 ghost use Rattle.control_sweeps.specs.Tables.{Below, Within, Marked};
 
 // ---- numbers
@@ -293,17 +289,4 @@ pub fn lose_bits(trails: &mut [u16], o: usize, m: usize)
         trails[o + i] = t / 2;
         i += 1;
     }
-}
-
-// ---- the log
-
-// Entry number e of a setter's log.
-pub fn write_entry(log: &mut [u16], e: usize, kind: u16, o: usize, m: usize)
-    requires { ⌜ (o + m ≤ 1024) × (3 * e + 3 ≤ length (now log)) ⌝ }
-    ensures { λ _. ⌜ now (log .exit) ≡ overlay (now (log .entry)) (3 * e) (words (entry kind o m ∷ [])) ⌝ }
-{
-    let at = 3 * e;
-    log[at] = kind;
-    log[at + 1] = o as u16;
-    log[at + 2] = m as u16;
 }

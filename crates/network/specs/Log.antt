@@ -2,7 +2,7 @@
 -- Assumes nothing: these are definitions.
 use mathlib.Core.Bool.{Bool, true, false, cond}
 use mathlib.Core.List.{List, [], _∷_, _++_, reverse}
-use Prim.Native.Nat.{ℕ, zero, suc, _+_, _-_}
+use Prim.Native.Nat.{ℕ, zero, suc, _+_, _-_, _*_}
 use lib.Dec.{eqb}
 use lib.ListN.{length, getD}
 use Rattle.counts.specs.Counts.{up, W}
@@ -16,7 +16,14 @@ pub record Entry : Type 0 where
   pub first : ℕ
   pub second : ℕ
 
--- entries as words, three for each; and words read as entries, what is left over at the end being none
+abbrev pub entry : ℕ → ℕ → ℕ → Entry
+entry kind first second = record { kind = kind; first = first; second = second }
+
+-- how many words an entry has
+abbrev pub entryWords : ℕ
+entryWords = 3
+
+-- entries as words, and words read as entries, what is left over at the end being none
 unfoldable pub words : List Entry → List ℕ
 words [] = []
 words (e ∷ es) = e .kind ∷ e .first ∷ e .second ∷ words es
@@ -25,14 +32,17 @@ unfoldable pub entries : List ℕ → List Entry
 entries [] = []
 entries (a ∷ []) = []
 entries (a ∷ b ∷ []) = []
-entries (a ∷ b ∷ c ∷ rest) = record { kind = a; first = b; second = c } ∷ entries rest
+entries (a ∷ b ∷ c ∷ rest) = entry a b c ∷ entries rest
+
+-- one entry of them, number e
+abbrev pub entryAt : List ℕ → ℕ → Entry
+entryAt log e = entry (getD log (entryWords * e) 0) (getD log (entryWords * e + 1) 0) (getD log (entryWords * e + 2) 0)
 
 module _ (w : Wiring) where
   -- the first c switches of a layer: pair i at the places that `place` gives its two sides
   unfoldable pub layerEntries : (Side → ℕ) → ℕ → List Entry
   layerEntries place zero = []
-  layerEntries place (suc i) =
-      layerEntries place i ++ (record { kind = 7; first = place (i, false); second = place (i, true) } ∷ [])
+  layerEntries place (suc i) = layerEntries place i ++ (entry 7 (place (i, false)) (place (i, true)) ∷ [])
 
   -- all switches of a network in the sequence of their bits; its places lie where `place` says
   unfoldable pub switches : Network → (ℕ → ℕ) → List Entry

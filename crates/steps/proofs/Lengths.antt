@@ -12,9 +12,9 @@ use Rattle.counts.specs.Counts.{up, E}
 use Rattle.counts.proofs.Rule.{E-none, E-two, E-more}
 use Rattle.network.specs.Wiring.{Wiring}
 use Rattle.network.specs.Network.{Network, down}
-use Rattle.network.specs.Log.{Entry, words}
+use Rattle.network.specs.Log.{Entry, entry, entryWords, words}
 use Rattle.network.proofs.Shape.{Sized, none, some, sized, length-words}
-use Rattle.steps.specs.Sequence.{entry, rounds, inputEntries, entriesOf, setEntries}
+use Rattle.steps.specs.Sequence.{rounds, inputEntries, entriesOf, setEntries}
 
 length-rounds : (i o m : ℕ) → length (rounds i o m) ≡ 3 * i
 unfolding rounds
@@ -58,5 +58,5 @@ module _ (w : Wiring) where
   unfolding setEntries
   length-setEntries n = length-of (λ i. i) (sized n)
 
-  pub length-setWords : (n : ℕ) → length (words (setEntries w n)) ≡ 3 * E n
-  length-setWords n = length-words (setEntries w n) ∙ ap (λ e. 3 * e) (length-setEntries n)
+  pub length-setWords : (n : ℕ) → length (words (setEntries w n)) ≡ entryWords * E n
+  length-setWords n = length-words (setEntries w n) ∙ ap (λ e. entryWords * e) (length-setEntries n)

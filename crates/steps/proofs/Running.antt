@@ -12,11 +12,11 @@ use borrow.Author.Tests.{eqb-true, eq-eqb}
 use Rattle.counts.specs.Counts.{up}
 use Rattle.network.specs.Wiring.{Wiring, Lawful}
 use Rattle.network.specs.Network.{Network, network, switchCount}
-use Rattle.network.specs.Log.{Entry}
+use Rattle.network.specs.Log.{Entry, entry}
 use Rattle.network.proofs.Shape.{Sized, none, some, sized}
 use Rattle.steps.specs.State.{State, Subnetwork}
 use Rattle.steps.specs.Steps.{step, step4, step5}
-use Rattle.steps.specs.Sequence.{entry, rounds, inputEntries, entriesOf, setEntries}
+use Rattle.steps.specs.Sequence.{rounds, inputEntries, entriesOf, setEntries}
 use Rattle.steps.specs.Run.{subnetworks, names, runEntry, runEntries, runSet}
 use Rattle.steps.specs.Fold.{roundsOf, inputSteps, setNet}
 use Rattle.steps.proofs.Lookup.{OneOf, Held, Single, halfAt, inTop, only-one}

@@ -7,10 +7,7 @@ use lib.Dec.{ltb}
 use Rattle.counts.specs.Counts.{up}
 use Rattle.network.specs.Wiring.{Wiring}
 use Rattle.network.specs.Network.{Network, wires, split, network}
-use Rattle.network.specs.Log.{Entry}
-
-abbrev pub entry : ℕ → ℕ → ℕ → Entry
-entry kind start size = record { kind = kind; first = start; second = size }
+use Rattle.network.specs.Log.{Entry, entry}
 
 -- steps 1, 2, 3, repeated
 unfoldable pub rounds : ℕ → ℕ → ℕ → List Entry

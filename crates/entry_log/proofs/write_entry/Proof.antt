@@ -1,11 +1,13 @@
+-- The words of an entry, one after the other.
+-- Assumes nothing.
 use native.Mathlib.Omega.{arith}
+use borrow.Author.Needs.{needs}
 use Prim.Native.Nat.{_*_}
 use lib.ListN.{length-set}
-use Rattle.network.specs.Log.{words}
-use Rattle.apply_exchange.proofs.Bytes.{three}
-use borrow.Author.Needs.{needs}
-use Rattle.apply_exchange.proofs.write_entry.Statement.{statement}
-use Rattle.apply_exchange.proofs.write_entry.Tie as tie
+use Rattle.network.specs.Log.{entryWords}
+use Rattle.entry_log.proofs.Written.{entry-written}
+use Rattle.entry_log.proofs.write_entry.Statement.{statement}
+use Rattle.entry_log.proofs.write_entry.Tie as tie
 
 mul-at : tie.Need-mul-at
 mul-at c = search needs
@@ -44,8 +46,9 @@ same-length : tie.Need-same-length
 same-length c = search needs
 
 returns : tie.Need-returns
-unfolding words
-returns c = three (c .args .log .now) (3 * c .args .e) 7 (c .args .lower) (c .args .upper) (c .pre .0)
+returns c =
+    let a = c .args in
+    entry-written (a .log .now) (entryWords * a .e) (a .kind) (a .first) (a .second) (omega arith)
 
 pub write-entry-spec : {M : Type 1} → statement M
 write-entry-spec =

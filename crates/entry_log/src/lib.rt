@@ -1,0 +1,43 @@
+// The entries of a log as words. Nothing here is hidden: every entry follows from sizes alone. Public for the crates of the
+// calls and the programs, which know the log's length: so a function may `require` room.
+ghost use mathlib.Core.Path.{_≡_};
+ghost use mathlib.Core.List.{[], _∷_};
+ghost use Prim.Native.Nat.{_+_, _*_, _≤_, _<_};
+ghost use lib.ListN.{length};
+ghost use Rattle.answers.specs.Buffers.{overlay};
+ghost use Rattle.network.specs.Log.{entry, entryWords, words, entryAt};
+
+// How many words an entry has.
+pub const ENTRY_WORDS: usize = 3;
+
+// Writes the log's entry number e.
+pub fn write_entry(log: &mut [u16], e: usize, kind: u16, first: usize, second: usize)
+    requires { ⌜ (entryWords * (e + 1) ≤ length (now log)) × (first < 65536) × (second < 65536) ⌝ }
+    ensures { λ _. ⌜ now (log .exit) ≡ overlay (now (log .entry)) (entryWords * e) (words (entry kind first second ∷ [])) ⌝ }
+{
+    let at = ENTRY_WORDS * e;
+    log[at] = kind;
+    log[at + 1] = first as u16;
+    log[at + 2] = second as u16;
+}
+
+// The two numbers of the log's entry number e.
+pub fn first_of(log: &[u16], e: usize) -> usize
+    requires { ⌜ entryWords * (e + 1) ≤ length (now log) ⌝ }
+    ensures { λ r. ⌜ r ≡ entryAt (now (log .entry)) e .first ⌝ }
+{
+    wide(log[ENTRY_WORDS * e + 1])
+}
+
+pub fn second_of(log: &[u16], e: usize) -> usize
+    requires { ⌜ entryWords * (e + 1) ≤ length (now log) ⌝ }
+    ensures { λ r. ⌜ r ≡ entryAt (now (log .entry)) e .second ⌝ }
+{
+    wide(log[ENTRY_WORDS * e + 2])
+}
+
+fn wide(x: u16) -> usize
+    ensures { λ r. ⌜ r ≡ x ⌝ }
+{
+    x as usize
+}
