@@ -75,23 +75,29 @@ def signals(door):
     for number in numbers:  # in the middle: a program takes its time
         for program in 'draw', 'mix', 'unmix':
             for to_group in True, False:
-                door.put_aside(program, 'sleep 0.3; exec REAL "$@"\n')
-                door.fresh(month=b'abcdef')
-                process = door.start('mix', '2', 'month', start_new_session=True)
-                time.sleep(0.15)
-                same(len(door.files()) > 1, True, f'{program} was reached')
-                end = interrupted(door, process, number, to_group, f'signal {number} in {program}', made)
+                end = interrupted_in(door, program, number, to_group, made)
                 same(end, 3 if number == signal.SIGQUIT and door.shell == 'bash' else -number, 'ended by the signal')  # bash cannot be quit
-                door.put_back(program)
-    ends = [interrupted_somewhere(door, rng.choice(numbers), rng.random() < 0.5, made) for _ in range(60)]
-    same(len(set(ends)) > 1, True, f'signals at random: some came early, and some late {ends}')
+    for _ in range(60):
+        number = rng.choice(numbers)
+        door.fresh(month=rng.randbytes(6000))
+        process = door.start('mix', '6', 'month', start_new_session=True)
+        time.sleep(rng.random() * 0.08)
+        interrupted(door, process, number, rng.random() < 0.5, f'signal {number} at random', made)
 
 
-def interrupted_somewhere(door, number, to_group, made):
-    door.fresh(month=rng.randbytes(6000))
-    process = door.start('mix', '6', 'month', start_new_session=True)
-    time.sleep(rng.random() * 0.08)
-    return interrupted(door, process, number, to_group, f'signal {number} at random', made)
+def interrupted_in(door, program, number, to_group, made):
+    """A signal while a program, which takes its time, is at work."""
+    reached = door.home + '/reached'
+    door.put_aside(program, f"cd . >'{reached}'; sleep 0.2; exec REAL \"$@\"\n")
+    door.fresh(month=b'abcdef')
+    process = door.start('mix', '2', 'month', start_new_session=True)
+    while not os.path.exists(reached):
+        time.sleep(0.01)
+    same(len(door.files()) > 1, True, f'{program} was reached')
+    end = interrupted(door, process, number, to_group, f'signal {number} in {program}', made)
+    door.put_back(program)
+    os.remove(reached)
+    return end
 
 
 def deaf_reader(door):
