@@ -185,6 +185,9 @@ def several(door):
 # ---- cards
 
 def cards(door):
+    door.fresh(sheet=bytes.fromhex('0109882f1d'))
+    by_hand = '   1: 01 09 88 2F 1D                 = 247'  # 1 + 1 + 18 + 408 + 188 + 145 = 761 = 2 * 257 + 247
+    same(door.run('card', 'sheet')[1].splitlines()[-1], by_hand, 'a card by hand')
     for n in 0, 1, 2, 9, 24, 100, 1000, 1024:
         sheet = sheet_of(n)
         door.fresh(sheet=sheet)
