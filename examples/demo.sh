@@ -1,0 +1,18 @@
+# The steps of `lomuveran demo`, in a folder in which there is a copy of the month alone.
+# shellcheck shell=sh
+say "A month is a file of blocks of one width: here $(wc -l <month) lines of 40 bytes, a line a block. It begins:"
+head -n 4 month
+step mix 40 month || return
+say '' 'In the mixed file the same blocks stand in a secret order (these name their spans, for you to see it). It begins:'
+head -n 4 month.mixed
+step show month.sheet || return
+say 'Behind the word order stands the place to which the first block went (places count from 0), then that of the second, and so on.'
+say '' 'For thirty years, the sheet may be a printed card:'
+step card month.sheet || return
+say '' 'Whoever brings the sheet gets the month back:'
+step return 40 month.mixed month.sheet month.back || return
+head -n 4 month.back
+cmp month month.back || return 3
+say 'month.back is month, to the byte.' '' 'What cannot be done is refused in words, with a status of its own:'
+step mix 41 month 2>&1
+say "(status $?)" '' 'These files were in a folder for the demonstration alone, which is removed now.'
