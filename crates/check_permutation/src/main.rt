@@ -3,7 +3,7 @@
 mod plain;
 mod refusals;
 
-use permutation::Permutation;
+use permutation_record::Permutation;
 use tally::Tally;
 ghost use Prim.Native.Nat.{_≤_};
 

@@ -1,6 +1,6 @@
 // A plain second computation: marks and searches, on arrays of 1,024 entries.
 use answers::Answer;
-use permutation::Reply;
+use permutation_record::Reply;
 use tally::Tally;
 ghost use Prim.Native.Nat.{_≤_};
 

@@ -1,6 +1,6 @@
 // Every refusal, with its place and with what comes back.
 use crate::plain;
-use permutation::Permutation;
+use permutation_record::Permutation;
 use tally::Tally;
 
 // 0 .. n - 1 with x at place i.
