@@ -85,6 +85,6 @@ fn of_shuffles(t: Tally) -> Tally {
     of_shuffle(t4, 1024, 1024, 1023, 13)
 }
 
-pub fn all(t: Tally) -> Tally {
+pub(crate) fn all(t: Tally) -> Tally {
     of_shuffles(of_seconds(of_records(of_lists(t))))
 }
