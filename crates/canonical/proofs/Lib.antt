@@ -13,6 +13,7 @@ pub mod Only
 pub mod Through
 pub mod Carry
 pub mod Carrying
+pub mod Orders
 pub mod Steps
 pub mod Paper
 pub mod Cases

@@ -1,6 +1,6 @@
--- Entries cross whole: lent ones are the record that `permutation` makes of the same list, and a record's list comes back.
+-- Entries cross whole: lent ones are the record that `permutation_record` makes of the same list, and a record's list comes back.
 -- Assumes nothing.
-use mathlib.Core.Path.{_≡_, refl, sym, ap, _∙_}
+use mathlib.Core.Path.{_≡_, refl, sym, _∙_}
 use mathlib.Core.List.{List}
 use Prim.Native.Nat.{ℕ, _-_, _≤_, _<_}
 use native.Mathlib.Omega.{arith}
@@ -8,10 +8,11 @@ use native.Mathlib.Decide.{decLt}
 use lib.ListN.{length, getD, replicate, List·getD-append, List·getD-eq-default}
 use Rattle.answers.specs.Outcomes.{outcome}
 use Rattle.permutation.specs.Permutations.{tabulate}
-use Rattle.permutation.specs.Records.{recordOf}
-use Rattle.permutation.specs.declared.Reply.{Reply}
+use Rattle.permutation_record.specs.Records.{recordOf}
+use Rattle.permutation_record.specs.declared.Reply.{Reply}
 use Rattle.permutation.proofs.Tables.{length-tabulate, tabulate-at, is-tabulate}
-use Rattle.permutation.proofs.Records.{is-record-of}
+use Rattle.permutation_entries.proofs.Entries.{is-padded-of}
+use Rattle.permutation_record.proofs.Records.{is-record-of}
 use Rattle.capi.specs.Crossing.{recordIn, spread, lent}
 use Rattle.capi.proofs.Crossing.{lent-accepted}
 
@@ -30,8 +31,9 @@ module _ (es : List ℕ) where
   pub record-in : length es ≤ 1024 → recordIn es ≡ recordOf es
   unfolding recordIn
   record-in small =
-      is-record-of (length es) (tabulate entry 1024) es (length-tabulate entry 1024) small refl
-      (λ i l. tabulate-at entry 1024 i (omega arith)) past
+      is-record-of (length es) es refl
+      (is-padded-of (length es) (tabulate entry 1024) es (length-tabulate entry 1024) small refl
+      (λ i l. tabulate-at entry 1024 i (omega arith)) past)
 
   pub spread-back : spread (recordOf es) (length es) ≡ es
   unfolding recordOf

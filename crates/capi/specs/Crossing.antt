@@ -10,8 +10,8 @@ use Rattle.answers.specs.Questions.{ask, firstNo}
 use Rattle.answers.specs.Outcomes.{Outcome, answerOf, outcome}
 use Rattle.numbers.specs.Numbers.{NumberAnswer}
 use Rattle.permutation.specs.Permutations.{tabulate}
-use Rattle.permutation.specs.declared.Permutation.{Permutation}
-use Rattle.permutation.specs.declared.Reply.{Reply}
+use Rattle.permutation_record.specs.declared.Permutation.{Permutation}
+use Rattle.permutation_record.specs.declared.Reply.{Reply}
 use Rattle.capi.specs.declared.CAnswer.{CAnswer}
 use Rattle.capi.specs.declared.CNumber.{CNumber}
 

@@ -2,8 +2,8 @@
 // length. Each export makes one call of the crate that does the work, and its promise is that crate's own definition of the
 // call.
 use numbers::ReadNumber;
-use permutation::Permutation;
-use permutation::Reply;
+use permutation_record::Permutation;
+use permutation_record::Reply;
 ghost use mathlib.Core.Path.{_≡_};
 ghost use lib.ListN.{length, getD};
 ghost use Rattle.answers.specs.Outcomes.{outcome, logged};
@@ -13,7 +13,7 @@ ghost use Rattle.control.specs.Calls.{setCall};
 ghost use Rattle.counts.specs.Counts.{W, E};
 ghost use Rattle.numbers.specs.Numbers.{numberAt};
 ghost use Rattle.numbers.specs.Reading.{meaning};
-ghost use Rattle.permutation.specs.Records as records;
+ghost use Rattle.permutation_record.specs.Records as records;
 ghost use Rattle.shuffle.specs.Shuffled.{shuffleCall};
 ghost use Rattle.capi.specs.Crossing.{answerIn, numberIn, recordIn, spread, lent, counted};
 

@@ -1,11 +1,7 @@
 // A second mixer, written plainly: a list of the switches, made with a stack of tasks, and exchanges byte by byte.
 ghost use Prim.Native.Nat.{_≤_};
 
-fn add(a: usize, b: usize) -> usize {
-    std::num::wrapping_add_usize(a, b)
-}
-
-pub fn get(a: &[usize], i: usize) -> usize {
+pub(crate) fn get(a: &[usize], i: usize) -> usize {
     if i < a.len() { a[i] } else { 0 }
 }
 
@@ -46,11 +42,11 @@ fn add_layer(
 ) -> usize {
     let mut i = 0;
     while i < c {
-        put(lower, add(count, i), add(o, i));
-        put(upper, add(count, i), add(add(o, k), i));
+        put(lower, tally::add(count, i), tally::add(o, i));
+        put(upper, tally::add(count, i), tally::add(tally::add(o, k), i));
         i += 1;
     }
-    add(count, c)
+    tally::add(count, c)
 }
 
 // A task: a network of m places from o, or (kind 1) its output switches alone.
@@ -78,9 +74,9 @@ fn take_apart(
     h: usize,
 ) -> usize {
     put(kind, at, 1);
-    push(kind, start, size, add(at, 1), add(o, k), h);
-    push(kind, start, size, add(at, 2), o, k);
-    add(at, 3)
+    push(kind, start, size, tally::add(at, 1), tally::add(o, k), h);
+    push(kind, start, size, tally::add(at, 2), o, k);
+    tally::add(at, 3)
 }
 
 // The task on top of the stack: done, or taken apart once its input switches are listed.
@@ -134,7 +130,7 @@ fn tasks(
 }
 
 // All switches of n places in the sequence of their bits.
-pub fn list(n: usize, lower: &mut [usize], upper: &mut [usize]) -> usize {
+pub(crate) fn list(n: usize, lower: &mut [usize], upper: &mut [usize]) -> usize {
     let mut kind = [0usize; 64];
     let mut start = [0usize; 64];
     let mut size = [0usize; 64];
@@ -159,7 +155,7 @@ fn swap_blocks(blocks: &mut [u8], width: usize, p: usize, q: usize) {
     let b = tally::times(q, width);
     let mut j = 0;
     while j < width {
-        swap(blocks, add(a, j), add(b, j));
+        swap(blocks, tally::add(a, j), tally::add(b, j));
         j += 1;
     }
 }
@@ -182,12 +178,12 @@ fn turned(e: usize, count: usize, back: bool) -> usize {
 
 fn write_words(log: &mut [u16], at: usize, p: usize, q: usize) {
     put_word(log, at, 7);
-    put_word(log, add(at, 1), p);
-    put_word(log, add(at, 2), q);
+    put_word(log, tally::add(at, 1), p);
+    put_word(log, tally::add(at, 2), q);
 }
 
 // Runs the listed switches under their bits, first to last or last to first, and logs them.
-pub fn run(
+pub(crate) fn run(
     blocks: &mut [u8],
     width: usize,
     lower: &[usize],
@@ -203,24 +199,20 @@ pub fn run(
         let i = turned(e, count, back);
         act(blocks, width, get(lower, i), get(upper, i), bit(bits, i));
         write_words(log, at, get(lower, i), get(upper, i));
-        at = add(at, 3);
+        at = tally::add(at, 3);
         e += 1;
     }
 }
 
 // ---- pseudo-random bytes
 
-fn random(x: u32) -> u32 {
-    (x % 65537 * 75 + 74) % 65537
-}
-
 // Each byte below `limit`.
-pub fn fill(bytes: &mut [u8], seed: u32, limit: u32) {
-    let mut x = random(seed);
+pub(crate) fn fill(bytes: &mut [u8], seed: u32, limit: u32) {
+    let mut x = tally::random(seed);
     let mut i = 0;
     while i < bytes.len() {
         bytes[i] = byte(x / 7, limit);
-        x = random(x);
+        x = tally::random(x);
         i += 1;
     }
 }

@@ -5,20 +5,16 @@ ghost use lib.ListN.{length};
 ghost use Rattle.io.specs.Counts.{Counts};
 
 // Large arrays, of which a caller's proof need know the length alone.
-pub fn blocks() -> [u8; 262144]
+pub(crate) fn blocks() -> [u8; 262144]
     ensures { λ r. ⌜ 262144 ≡ length r ⌝ }
 {
     [0; 262144]
 }
 
-pub fn text() -> [u8; 16384]
+pub(crate) fn text() -> [u8; 16384]
     ensures { λ r. ⌜ 16384 ≡ length r ⌝ }
 {
     [7; 16384]
-}
-
-fn add(a: usize, b: usize) -> usize {
-    std::num::wrapping_add_usize(a, b)
 }
 
 fn get(a: &[u8], i: usize) -> u8 {
@@ -32,29 +28,25 @@ fn put(a: &mut [u8], i: usize, x: u8) {
 }
 
 // n, or the buffer's length where that is less.
-pub fn within(n: usize, buf: &[u8]) -> usize
+pub(crate) fn within(n: usize, buf: &[u8]) -> usize
     ensures { λ r. ⌜ Counts r (now (buf .entry)) ⌝ }
 {
     if n < buf.len() { n } else { buf.len() }
 }
 
-fn random(x: u32) -> u32 {
-    (x % 65537 * 75 + 74) % 65537
-}
-
 // Bytes from a seed.
-pub fn fill(bytes: &mut [u8], seed: u32) {
-    let mut x = random(seed);
+pub(crate) fn fill(bytes: &mut [u8], seed: u32) {
+    let mut x = tally::random(seed);
     let mut i = 0;
     while i < bytes.len() {
         bytes[i] = (x / 7 % 256) as u8;
-        x = random(x);
+        x = tally::random(x);
         i += 1;
     }
 }
 
 // Whether every byte is a 7.
-pub fn sevens(bytes: &[u8]) -> bool {
+pub(crate) fn sevens(bytes: &[u8]) -> bool {
     let mut i = 0;
     while i < bytes.len() {
         if bytes[i] != 7 {
@@ -73,7 +65,7 @@ fn number(order: &[u8], at: usize) -> usize {
     if low < 128 {
         return low;
     }
-    low - 128 + 128 * (get(order, add(at, 1)) as usize)
+    low - 128 + 128 * (get(order, tally::add(at, 1)) as usize)
 }
 
 // The place after the number at a place.
@@ -97,7 +89,7 @@ fn copy(home: &[u8], i: usize, out: &mut [u8], v: usize, width: usize) {
     let to = tally::times(v, width);
     let mut j = 0;
     while j < width {
-        put(out, add(to, j), get(home, add(from, j)));
+        put(out, tally::add(to, j), get(home, tally::add(from, j)));
         j += 1;
     }
 }
@@ -111,11 +103,11 @@ fn scatter_from(order: &[u8], start: usize, width: usize, home: &[u8], out: &mut
     while at < order.len() {
         copy(home, i, out, number(order, at), width);
         at = after(order, at);
-        i = add(i, 1);
+        i = tally::add(i, 1);
     }
 }
 
-pub fn scatter(order: &[u8], width: usize, home: &[u8], out: &mut [u8]) {
+pub(crate) fn scatter(order: &[u8], width: usize, home: &[u8], out: &mut [u8]) {
     if order.len() == 0 {
         return;
     }

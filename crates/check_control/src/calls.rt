@@ -8,7 +8,7 @@ fn least(a: usize, b: usize) -> usize
     if a < b { a } else { b }
 }
 
-pub fn set(
+pub(crate) fn set(
     order: &[u16],
     n: usize,
     bits: &mut [u8],
@@ -40,7 +40,7 @@ fn mix_part(
 }
 
 // Mix, or return.
-pub fn mix(
+pub(crate) fn mix(
     n: usize,
     width: usize,
     blocks: &mut [u8; 262144],
@@ -51,17 +51,17 @@ pub fn mix(
     mix_part(n, width, blocks, bits, w, back)
 }
 
-pub fn write_sheet(n: usize, bits: &[u8], w: usize, sheet: &mut [u8]) -> Answer {
+pub(crate) fn write_sheet(n: usize, bits: &[u8], w: usize, sheet: &mut [u8]) -> Answer {
     let count = least(w, bits.len());
     sheets::write_sheet(n, &bits[..count], sheet)
 }
 
-pub fn read_sheet(sheet: &[u8], end: usize, bits: &mut [u8]) -> Answer {
+pub(crate) fn read_sheet(sheet: &[u8], end: usize, bits: &mut [u8]) -> Answer {
     let count = least(end, sheet.len());
     sheets::read_sheet(&sheet[..count], bits)
 }
 
-pub fn draw(n: usize, words: &[u32], order: &mut [u16]) -> Answer {
+pub(crate) fn draw(n: usize, words: &[u32], order: &mut [u16]) -> Answer {
     let places = least(n, words.len());
     shuffle::shuffle(n, &words[..places], order)
 }

@@ -15,11 +15,7 @@ pub const ENTRY: usize = 4;
 
 pub const ENTRIES: usize = 5;
 
-pub fn add(a: usize, b: usize) -> usize {
-    std::num::wrapping_add_usize(a, b)
-}
-
-pub fn of(nets: &[usize; 12288], j: usize, field: usize) -> usize {
+pub(crate) fn of(nets: &[usize; 12288], j: usize, field: usize) -> usize {
     nets[j % 2048 * 6 + field % 6]
 }
 
@@ -28,7 +24,7 @@ fn put(nets: &mut [usize; 12288], j: usize, field: usize, x: usize) {
 }
 
 // m/2 rounded up.
-pub fn up(m: usize) -> usize {
+pub(crate) fn up(m: usize) -> usize {
     m - m / 2
 }
 
@@ -45,8 +41,11 @@ fn counts() -> [usize; 2050] {
     while m < 1025 {
         let k = m - m / 2;
         let h = m / 2;
-        c[m * 2] = add(m - 1, add(c[k * 2], c[h * 2]));
-        c[m * 2 + 1] = add(add(entries_before(m), 1), add(c[k * 2 + 1], c[h * 2 + 1]));
+        c[m * 2] = tally::add(m - 1, tally::add(c[k * 2], c[h * 2]));
+        c[m * 2 + 1] = tally::add(
+            tally::add(entries_before(m), 1),
+            tally::add(c[k * 2 + 1], c[h * 2 + 1]),
+        );
         m += 1;
     }
     c
@@ -72,16 +71,16 @@ fn net(
 // The top half, behind what network j has before its halves.
 fn top(nets: &mut [usize; 12288], counts: &[usize; 2050], j: usize, t: usize, m: usize) {
     let o = of(nets, j, START);
-    let bit = add(of(nets, j, BIT), less(up(m)));
-    let entry = add(of(nets, j, ENTRY), entries_before(m));
+    let bit = tally::add(of(nets, j, BIT), less(up(m)));
+    let entry = tally::add(of(nets, j, ENTRY), entries_before(m));
     net(nets, counts, t, o, up(m), bit, entry);
 }
 
 // The bottom half, behind the top half t.
 fn bottom(nets: &mut [usize; 12288], counts: &[usize; 2050], t: usize, h: usize) {
-    let o = add(of(nets, t, START), of(nets, t, SIZE));
-    let bit = add(of(nets, t, BIT), of(nets, t, BITS));
-    let entry = add(of(nets, t, ENTRY), of(nets, t, ENTRIES));
+    let o = tally::add(of(nets, t, START), of(nets, t, SIZE));
+    let bit = tally::add(of(nets, t, BIT), of(nets, t, BITS));
+    let entry = tally::add(of(nets, t, ENTRY), of(nets, t, ENTRIES));
     net(nets, counts, t % 2048 + 1, o, h, bit, entry);
 }
 
@@ -94,7 +93,7 @@ fn halve(nets: &mut [usize; 12288], counts: &[usize; 2050], j: usize) {
     }
 }
 
-pub fn list(n: usize) -> [usize; 12288] {
+pub(crate) fn list(n: usize) -> [usize; 12288] {
     let counts = counts();
     let mut nets = [0usize; 12288];
     net(&mut nets, &counts, 0, 0, n, 0, 0);
@@ -107,7 +106,7 @@ pub fn list(n: usize) -> [usize; 12288] {
 }
 
 // The network that has a start and a size; 2,047 where there is none.
-pub fn find(nets: &[usize; 12288], o: usize, m: usize) -> usize {
+pub(crate) fn find(nets: &[usize; 12288], o: usize, m: usize) -> usize {
     let mut j = 0;
     while j < 1023 {
         if of(nets, j, SIZE) == m {
@@ -136,9 +135,9 @@ fn write_rounds(log: &mut [u16; 49152], e: usize, o: usize, m: usize) {
     let mut i = 0;
     while i < k {
         write(log, at, 1, o, m);
-        write(log, add(at, 1), 2, o, m);
-        write(log, add(at, 2), 3, o, m);
-        at = add(at, 3);
+        write(log, tally::add(at, 1), 2, o, m);
+        write(log, tally::add(at, 2), 3, o, m);
+        at = tally::add(at, 3);
         i += 1;
     }
     write(log, at, 4, o, m);
@@ -154,15 +153,15 @@ fn write_net(log: &mut [u16; 49152], nets: &[usize; 12288], j: usize) {
     if 2 < m {
         write_rounds(log, e, o, m);
     }
-    write(log, less(add(e, entries_before(m))), 5, o, m);
-    write(log, less(add(e, of(nets, j, ENTRIES))), 6, o, m);
+    write(log, less(tally::add(e, entries_before(m))), 5, o, m);
+    write(log, less(tally::add(e, of(nets, j, ENTRIES))), 6, o, m);
 }
 
-pub fn less(x: usize) -> usize {
+pub(crate) fn less(x: usize) -> usize {
     if x == 0 { 0 } else { x - 1 }
 }
 
-pub fn write_all(log: &mut [u16; 49152], nets: &[usize; 12288]) {
+pub(crate) fn write_all(log: &mut [u16; 49152], nets: &[usize; 12288]) {
     let mut j = 0;
     while j < 1023 {
         write_net(log, nets, j);

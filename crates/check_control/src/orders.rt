@@ -2,15 +2,9 @@
 // blocks.
 use crate::calls;
 
-fn next(x: u32) -> u32 {
-    let a = x ^ (x << 13);
-    let b = a ^ (a >> 17);
-    b ^ (b << 5)
-}
-
 fn following(x: u32, base: usize, random: bool) -> u32 {
     if random {
-        return next(x);
+        return tally::next(x);
     }
     if 1024 < base {
         return 0;
@@ -37,14 +31,14 @@ fn words(c: u32, n: usize, random: bool) -> [u32; 1024] {
     words
 }
 
-pub fn order(c: u32, n: usize, random: bool) -> [u16; 1024] {
+pub(crate) fn order(c: u32, n: usize, random: bool) -> [u16; 1024] {
     let mut out = [0u16; 1024];
     calls::draw(n, &words(c, n, random), &mut out);
     out
 }
 
 // A setting of w bits: the binary digits of c, and behind sixteen of them a pseudo-random sequence.
-pub fn setting(c: u32, w: usize) -> [u8; 9217] {
+pub(crate) fn setting(c: u32, w: usize) -> [u8; 9217] {
     let mut bits = [0u8; 9217];
     let mut x = c;
     let mut i = 0;
@@ -53,18 +47,18 @@ pub fn setting(c: u32, w: usize) -> [u8; 9217] {
         x = if i < 16 {
             x / 2
         } else {
-            next(x % 65536 * 3 + c % 65536)
+            tally::next(x % 65536 * 3 + c % 65536)
         };
         i += 1;
     }
     bits
 }
 
-pub fn fill(blocks: &mut [u8; 262144], bytes: usize) {
+pub(crate) fn fill(blocks: &mut [u8; 262144], bytes: usize) {
     let mut x: u32 = 31;
     let mut q = 0;
     while q < bytes {
-        x = next(x);
+        x = tally::next(x);
         blocks[q % 262144] = (x % 251) as u8;
         q += 1;
     }
@@ -86,7 +80,7 @@ fn wide(x: u16) -> usize {
 }
 
 // out[order[i]] = block[i].
-pub fn scatter(
+pub(crate) fn scatter(
     out: &mut [u8; 262144],
     blocks: &[u8; 262144],
     order: &[u16; 1024],
@@ -117,7 +111,7 @@ fn word(low: u8, high: u8) -> u16 {
 }
 
 // The order that a setting carries: 0 to n - 1 returned by it, since the block at the place that i goes to comes to i.
-pub fn carried(n: usize, bits: &[u8; 9217], w: usize) -> [u16; 1024] {
+pub(crate) fn carried(n: usize, bits: &[u8; 9217], w: usize) -> [u16; 1024] {
     let mut blocks = numbers();
     calls::mix(n, 2, &mut blocks, bits, w, true);
     let mut order = [0u16; 1024];

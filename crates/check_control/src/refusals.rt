@@ -81,7 +81,7 @@ fn too_many(t: Tally) -> Tally {
     tally::tallied(t2, tally::same_words(&log, &[77u16; 16]))
 }
 
-pub fn all() -> Tally {
+pub(crate) fn all() -> Tally {
     let order = orders::order(5, 5, true);
     let bad = with(&order, 4, 5);
     let t1 = lengths(tally::none(), &order, &bad);

@@ -84,8 +84,8 @@ fn step3(
     let mut f = other(k, s);
     let mut c = w.c;
     let pair = if s < k { s } else { f };
-    if nets::add(pair, 1) < k {
-        put_bit(bits, nets::add(first, pair), s < k);
+    if tally::add(pair, 1) < k {
+        put_bit(bits, tally::add(first, pair), s < k);
     }
     put(marks, 0, pair, 1);
     let low = lowest(marks, k, 0);
@@ -101,16 +101,16 @@ fn step3(
 // Switch i on (o + i, o + k + i) acts on the table.
 fn swap(table: &mut [usize; 1024], o: usize, k: usize, i: usize) {
     let x = at(table, o, i);
-    let y = at(table, o, nets::add(k, i));
+    let y = at(table, o, tally::add(k, i));
     put(table, o, i, y);
-    put(table, o, nets::add(k, i), x);
+    put(table, o, tally::add(k, i), x);
 }
 
 // The first c switches, under the bits from `first` on.
 fn act(table: &mut [usize; 1024], o: usize, k: usize, c: usize, bits: &[u8; 9217], first: usize) {
     let mut i = 0;
     while i < c {
-        if bits[nets::add(first, i) % 9217] == 1 {
+        if bits[tally::add(first, i) % 9217] == 1 {
             swap(table, o, k, i);
         }
         i += 1;
@@ -171,7 +171,7 @@ fn step6(table: &mut [usize; 1024], bits: &mut [u8; 9217], o: usize, m: usize, f
 fn last_bits(table: &[usize; 1024], bits: &mut [u8; 9217], o: usize, h: usize, first: usize) {
     let mut i = 0;
     while i < h {
-        put_bit(bits, nets::add(first, i), at(table, o, i) / 2048 % 2 == 1);
+        put_bit(bits, tally::add(first, i), at(table, o, i) / 2048 % 2 == 1);
         i += 1;
     }
 }
@@ -181,7 +181,7 @@ fn regained(k: usize, cell: usize) -> usize {
     let trail = cell / 2048;
     let back = trail / 2 * 2048 + v;
     if trail % 2 == 1 {
-        nets::add(back, k)
+        tally::add(back, k)
     } else {
         back
     }
@@ -218,7 +218,7 @@ fn wide(x: u16) -> usize {
 
 // Runs the first `count` entries of a log, from an order and bits that are all 0. Answers how many of them name a network
 // of the list.
-pub fn run(
+pub(crate) fn run(
     order: &[u16; 1024],
     nets: &[usize; 12288],
     log: &[u16; 49152],
@@ -239,7 +239,7 @@ pub fn run(
         let i = e % 16384 * 3;
         let j = nets::find(nets, wide(log[i + 1]), wide(log[i + 2]));
         w = step(&mut table, &mut marks, bits, nets, j, log[i], w);
-        known = nets::add(known, (j < 1023) as usize);
+        known = tally::add(known, (j < 1023) as usize);
         e += 1;
     }
     known

@@ -3,23 +3,23 @@
 use crate::nets;
 
 // Entry o + i of a table.
-pub fn at(a: &[usize; 1024], o: usize, i: usize) -> usize {
+pub(crate) fn at(a: &[usize; 1024], o: usize, i: usize) -> usize {
     a[(o % 1024 + i % 1024) % 1024]
 }
 
-pub fn put(a: &mut [usize; 1024], o: usize, i: usize, x: usize) {
+pub(crate) fn put(a: &mut [usize; 1024], o: usize, i: usize, x: usize) {
     a[(o % 1024 + i % 1024) % 1024] = x;
 }
 
-pub fn put_bit(bits: &mut [u8; 9217], i: usize, bit: bool) {
+pub(crate) fn put_bit(bits: &mut [u8; 9217], i: usize, bit: bool) {
     if i < 9217 {
         bits[i] = bit as u8;
     }
 }
 
 // The other one of v and v + k: associates among values, the two of a pair among places.
-pub fn other(k: usize, v: usize) -> usize {
-    if v < k { nets::add(v, k) } else { v - k }
+pub(crate) fn other(k: usize, v: usize) -> usize {
+    if v < k { tally::add(v, k) } else { v - k }
 }
 
 // A value inside its half.
@@ -99,18 +99,18 @@ fn deal(
 ) {
     let k = nets::up(m);
     let x = value(table, o, m, i);
-    let y = value(table, o, m, nets::add(k, i));
+    let y = value(table, o, m, tally::add(k, i));
     let top = pick(crossed, y, x);
     let bring = inner(k, top);
     put(table, o, i, bring);
     if bring < m / 2 {
-        put_bit(bits, nets::add(last, bring), k <= top);
+        put_bit(bits, tally::add(last, bring), k <= top);
     }
     if i < m / 2 {
-        put(table, o, nets::add(k, i), inner(k, pick(crossed, x, y)));
+        put(table, o, tally::add(k, i), inner(k, pick(crossed, x, y)));
     }
-    if nets::add(i, 1) < k {
-        put_bit(bits, nets::add(first, i), crossed);
+    if tally::add(i, 1) < k {
+        put_bit(bits, tally::add(first, i), crossed);
     }
 }
 
@@ -119,8 +119,8 @@ fn pick(first: bool, x: usize, y: usize) -> usize {
 }
 
 // The position of a network's first output bit: they are its last m - k.
-pub fn outputs(nets: &[usize; 12288], j: usize) -> usize {
-    let end = nets::add(nets::of(nets, j, nets::BIT), nets::of(nets, j, nets::BITS));
+pub(crate) fn outputs(nets: &[usize; 12288], j: usize) -> usize {
+    let end = tally::add(nets::of(nets, j, nets::BIT), nets::of(nets, j, nets::BITS));
     std::num::wrapping_sub_usize(end, nets::of(nets, j, nets::SIZE) / 2)
 }
 
@@ -142,7 +142,7 @@ fn wide(x: u16) -> usize {
     x as usize
 }
 
-pub fn load(order: &[u16; 1024]) -> [usize; 1024] {
+pub(crate) fn load(order: &[u16; 1024]) -> [usize; 1024] {
     let mut table = [0usize; 1024];
     let mut i = 0;
     while i < 1024 {
@@ -153,7 +153,7 @@ pub fn load(order: &[u16; 1024]) -> [usize; 1024] {
 }
 
 // The canonical setting of an order, into the first bits; those behind stay.
-pub fn set(order: &[u16; 1024], nets: &[usize; 12288], bits: &mut [u8; 9217]) {
+pub(crate) fn set(order: &[u16; 1024], nets: &[usize; 12288], bits: &mut [u8; 9217]) {
     let mut table = load(order);
     let mut j = 0;
     while j < 1023 {

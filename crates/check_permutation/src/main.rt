@@ -3,7 +3,7 @@
 mod plain;
 mod refusals;
 
-use permutation::Permutation;
+use permutation_record::Permutation;
 use tally::Tally;
 ghost use Prim.Native.Nat.{_≤_};
 
@@ -129,7 +129,7 @@ fn check_shuffle(t: Tally, n: usize, seed: u32) -> Tally
     let t1 = tally::tallied(t, plain::alike(&out, &right));
     let t2 = tally::tallied(t1, plain::answered(a, 0, 0, n));
     let e = plain::front(&right, n);
-    let other = plain::words(plain::next(seed));
+    let other = plain::words(tally::next(seed));
     let s = plain::shuffle(&other, n);
     check_calls(check_list(t2, e, n), e, plain::front(&s, n), n)
 }
@@ -143,7 +143,7 @@ fn check_shuffles(before: Tally) -> Tally {
     let mut seed: u32 = 20240229;
     while k < 45 {
         t = check_shuffle(t, size(k), seed);
-        seed = plain::next(seed);
+        seed = tally::next(seed);
         k += 1;
     }
     t

@@ -1,6 +1,6 @@
 // A plain second computation: marks and searches, on arrays of 1,024 entries.
 use answers::Answer;
-use permutation::Reply;
+use permutation_record::Reply;
 use tally::Tally;
 ghost use Prim.Native.Nat.{_≤_};
 
@@ -28,11 +28,11 @@ fn put(e: [u16; 1024], i: usize, x: u16) -> [u16; 1024] {
     out
 }
 
-pub fn alike(a: &[u16; 1024], b: &[u16; 1024]) -> bool {
+pub(crate) fn alike(a: &[u16; 1024], b: &[u16; 1024]) -> bool {
     tally::same_words(a, b)
 }
 
-pub fn answered(a: Answer, number: usize, place: usize, count: usize) -> bool {
+pub(crate) fn answered(a: Answer, number: usize, place: usize, count: usize) -> bool {
     let right = Answer {
         number,
         place,
@@ -62,7 +62,7 @@ fn replied(
     false
 }
 
-pub fn compare(
+pub(crate) fn compare(
     t: Tally,
     r: Reply,
     number: usize,
@@ -73,12 +73,12 @@ pub fn compare(
     tally::tallied(t, replied(r, number, place, 0, length, &e))
 }
 
-pub fn accepted(t: Tally, r: Reply, count: usize, length: usize, e: [u16; 1024]) -> Tally {
+pub(crate) fn accepted(t: Tally, r: Reply, count: usize, length: usize, e: [u16; 1024]) -> Tally {
     tally::tallied(t, replied(r, 0, 0, count, length, &e))
 }
 
 // The first of n entries that is n or more, or was marked before; else n.
-pub fn first_bad(e: &[u16; 1024], n: usize) -> usize
+pub(crate) fn first_bad(e: &[u16; 1024], n: usize) -> usize
     requires { ⌜ n ≤ 1024 ⌝ }
 {
     let mut seen = [0u8; 1024];
@@ -111,7 +111,7 @@ fn place_of(e: &[u16; 1024], n: usize, v: usize) -> usize
     0
 }
 
-pub fn inverse(e: &[u16; 1024], n: usize) -> [u16; 1024]
+pub(crate) fn inverse(e: &[u16; 1024], n: usize) -> [u16; 1024]
     requires { ⌜ n ≤ 1024 ⌝ }
 {
     let mut out = [0u16; 1024];
@@ -123,7 +123,7 @@ pub fn inverse(e: &[u16; 1024], n: usize) -> [u16; 1024]
     out
 }
 
-pub fn combine(first: &[u16; 1024], second: &[u16; 1024], n: usize) -> [u16; 1024]
+pub(crate) fn combine(first: &[u16; 1024], second: &[u16; 1024], n: usize) -> [u16; 1024]
     requires { ⌜ n ≤ 1024 ⌝ }
 {
     let mut out = [0u16; 1024];
@@ -135,12 +135,12 @@ pub fn combine(first: &[u16; 1024], second: &[u16; 1024], n: usize) -> [u16; 102
     out
 }
 
-pub fn exchange(e: [u16; 1024], i: usize, j: usize) -> [u16; 1024] {
+pub(crate) fn exchange(e: [u16; 1024], i: usize, j: usize) -> [u16; 1024] {
     put(put(e, i, at(&e, j)), j, at(&e, i))
 }
 
 // How many entries stay home, one taken off n for each that does not.
-pub fn fixed(e: &[u16; 1024], n: usize) -> usize
+pub(crate) fn fixed(e: &[u16; 1024], n: usize) -> usize
     requires { ⌜ n ≤ 1024 ⌝ }
 {
     let mut c = n;
@@ -154,7 +154,7 @@ pub fn fixed(e: &[u16; 1024], n: usize) -> usize
     c
 }
 
-pub fn identity(n: usize) -> [u16; 1024]
+pub(crate) fn identity(n: usize) -> [u16; 1024]
     requires { ⌜ n ≤ 1024 ⌝ }
 {
     let mut out = [0u16; 1024];
@@ -167,7 +167,7 @@ pub fn identity(n: usize) -> [u16; 1024]
 }
 
 // Each place to the next, the last to 0.
-pub fn rotation(n: usize) -> [u16; 1024]
+pub(crate) fn rotation(n: usize) -> [u16; 1024]
     requires { ⌜ n ≤ 1024 ⌝ }
 {
     let mut out = [0u16; 1024];
@@ -180,7 +180,7 @@ pub fn rotation(n: usize) -> [u16; 1024]
 }
 
 // The digits of c to base 6.
-pub fn digits(c: usize, n: usize) -> [u16; 1024]
+pub(crate) fn digits(c: usize, n: usize) -> [u16; 1024]
     requires { ⌜ n ≤ 1024 ⌝ }
 {
     let mut out = [0u16; 1024];
@@ -195,7 +195,7 @@ pub fn digits(c: usize, n: usize) -> [u16; 1024]
 }
 
 // The first n entries, then 0.
-pub fn front(e: &[u16; 1024], n: usize) -> [u16; 1024]
+pub(crate) fn front(e: &[u16; 1024], n: usize) -> [u16; 1024]
     requires { ⌜ n ≤ 1024 ⌝ }
 {
     let mut out = [0u16; 1024];
@@ -208,18 +208,12 @@ pub fn front(e: &[u16; 1024], n: usize) -> [u16; 1024]
 }
 
 // A pseudo-random sequence.
-pub fn next(x: u32) -> u32 {
-    let a = x ^ (x << 13);
-    let b = a ^ (a >> 17);
-    b ^ (b << 5)
-}
-
-pub fn words(seed: u32) -> [u32; 1024] {
+pub(crate) fn words(seed: u32) -> [u32; 1024] {
     let mut out = [0u32; 1024];
     let mut x = seed;
     let mut i = 0;
     while i < 1024 {
-        x = next(x);
+        x = tally::next(x);
         out[i] = x;
         i += 1;
     }
@@ -227,7 +221,7 @@ pub fn words(seed: u32) -> [u32; 1024] {
 }
 
 // 0 to n - 1, then 7s; then each place exchanged with one that is not before it.
-pub fn shuffle(words: &[u32; 1024], n: usize) -> [u16; 1024]
+pub(crate) fn shuffle(words: &[u32; 1024], n: usize) -> [u16; 1024]
     requires { ⌜ n ≤ 1024 ⌝ }
 {
     let mut out = [7u16; 1024];

@@ -1,6 +1,6 @@
 // Every refusal, with its place and with what comes back.
 use crate::plain;
-use permutation::Permutation;
+use permutation_record::Permutation;
 use tally::Tally;
 
 // 0 .. n - 1 with x at place i.
@@ -85,6 +85,6 @@ fn of_shuffles(t: Tally) -> Tally {
     of_shuffle(t4, 1024, 1024, 1023, 13)
 }
 
-pub fn all(t: Tally) -> Tally {
+pub(crate) fn all(t: Tally) -> Tally {
     of_shuffles(of_seconds(of_records(of_lists(t))))
 }

@@ -103,7 +103,7 @@ fn contents(t: Tally) -> Tally {
     no_setting(t4, 0, [0, 0, 0, 0], 0, 0, 13, 0)
 }
 
-pub fn run() -> Tally {
+pub(crate) fn run() -> Tally {
     let reading = ends(long(cut(room(places(form(tally::none()))))));
     contents(lengths(reading))
 }

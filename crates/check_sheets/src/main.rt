@@ -81,10 +81,6 @@ fn same_number(number: usize, a: usize, b: usize, c: usize, d: usize) -> bool {
 
 // ---- settings by pseudo-random bits
 
-fn random(x: u32) -> u32 {
-    (x % 65537 * 75 + 74) % 65537
-}
-
 // The first w bytes.
 fn random_bits(bits: &mut [u8], w: usize, seed: u32)
     requires { ⌜ w ≤ length (now bits) ⌝ }
@@ -92,7 +88,7 @@ fn random_bits(bits: &mut [u8], w: usize, seed: u32)
     let mut x = seed;
     let mut i = 0;
     while i < w {
-        x = random(x);
+        x = tally::random(x);
         bits[i] = (x / 64 % 2) as u8;
         i += 1;
     }

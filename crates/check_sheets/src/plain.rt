@@ -4,7 +4,7 @@ use answers::Answer;
 ghost use Prim.Native.Nat.{_≤_};
 ghost use lib.ListN.{length};
 
-pub fn answer(number: usize, place: usize, count: usize) -> Answer {
+pub(crate) fn answer(number: usize, place: usize, count: usize) -> Answer {
     Answer {
         number,
         place,
@@ -16,12 +16,8 @@ fn wide(x: u8) -> usize {
     x as usize
 }
 
-fn plus(a: usize, b: usize) -> usize {
-    std::num::wrapping_add_usize(a, b)
-}
-
 // The switch count of n places: for each i from 1 to n the least l with i at most 2 to the l, summed.
-pub fn switches(n: usize) -> usize {
+pub(crate) fn switches(n: usize) -> usize {
     let mut total: usize = 0;
     let mut l: usize = 0;
     let mut power: usize = 1;
@@ -29,25 +25,25 @@ pub fn switches(n: usize) -> usize {
     while i < n {
         i += 1;
         if power < i {
-            l = plus(l, 1);
-            power = plus(power, power);
+            l = tally::add(l, 1);
+            power = tally::add(power, power);
         }
-        total = plus(total, l);
+        total = tally::add(total, l);
     }
     total
 }
 
-pub fn byte(s: &[u8], at: usize) -> usize {
+pub(crate) fn byte(s: &[u8], at: usize) -> usize {
     if at < s.len() { wide(s[at]) } else { 0 }
 }
 
-pub fn put(out: &mut [u8], at: usize, x: usize) {
+pub(crate) fn put(out: &mut [u8], at: usize, x: usize) {
     if at < out.len() {
         out[at] = (x % 256) as u8;
     }
 }
 
-pub fn copy(from: &[u8], n: usize, out: &mut [u8]) {
+pub(crate) fn copy(from: &[u8], n: usize, out: &mut [u8]) {
     let mut i = 0;
     while i < n {
         put(out, i, byte(from, i));
@@ -60,11 +56,11 @@ pub fn copy(from: &[u8], n: usize, out: &mut [u8]) {
 fn put_number(out: &mut [u8], at: usize, v: usize) -> usize {
     if v / 128 == 0 {
         put(out, at, v);
-        return plus(at, 1);
+        return tally::add(at, 1);
     }
     put(out, at, v % 128 + 128);
-    put(out, plus(at, 1), v / 128);
-    plus(at, 2)
+    put(out, tally::add(at, 1), v / 128);
+    tally::add(at, 2)
 }
 
 // The bits from one place to another, the first of weight 1.
@@ -74,15 +70,15 @@ fn weigh(bits: &[u8], from: usize, to: usize) -> usize {
     let mut i = from;
     while i < to {
         if byte(bits, i) == 1 {
-            value = plus(value, weight);
+            value = tally::add(value, weight);
         }
-        weight = plus(weight, weight);
+        weight = tally::add(weight, weight);
         i += 1;
     }
     value
 }
 
-pub fn sheet(n: usize, bits: &[u8], out: &mut [u8]) -> usize
+pub(crate) fn sheet(n: usize, bits: &[u8], out: &mut [u8]) -> usize
     requires { ⌜ length (now bits) ≤ 10000 ⌝ }
 {
     let first = put_number(out, 0, 1);
@@ -106,7 +102,7 @@ fn first_bad(bits: &[u8]) -> usize {
     i
 }
 
-pub fn write(n: usize, bits: &[u8], out: &mut [u8]) -> Answer
+pub(crate) fn write(n: usize, bits: &[u8], out: &mut [u8]) -> Answer
     requires { ⌜ length (now bits) ≤ 10000 ⌝ }
 {
     if 1024 < n {
@@ -146,7 +142,7 @@ fn refused(number: usize, place: usize) -> Found {
     }
 }
 
-pub fn number_at(s: &[u8], at: usize) -> Found {
+pub(crate) fn number_at(s: &[u8], at: usize) -> Found {
     if at < s.len() {
         let low = wide(s[at]);
         if low / 128 == 0 {
@@ -154,7 +150,7 @@ pub fn number_at(s: &[u8], at: usize) -> Found {
                 number: 0,
                 place: 0,
                 value: low,
-                next: plus(at, 1),
+                next: tally::add(at, 1),
             };
         }
         return second(s, at, low % 128);
@@ -163,7 +159,7 @@ pub fn number_at(s: &[u8], at: usize) -> Found {
 }
 
 fn second(s: &[u8], at: usize, low: usize) -> Found {
-    let then = plus(at, 1);
+    let then = tally::add(at, 1);
     if then < s.len() {
         let high = wide(s[then]);
         if 0 < high {
@@ -171,8 +167,8 @@ fn second(s: &[u8], at: usize, low: usize) -> Found {
                 return Found {
                     number: 0,
                     place: 0,
-                    value: plus(low, high * 128),
-                    next: plus(at, 2),
+                    value: tally::add(low, high * 128),
+                    next: tally::add(at, 2),
                 };
             }
         }
@@ -185,7 +181,7 @@ fn unpack(out: &mut [u8], from: usize, v: usize) {
     let mut rest = v;
     let mut j = 0;
     while j < 14 {
-        put(out, plus(from, j), rest % 2);
+        put(out, tally::add(from, j), rest % 2);
         rest = rest / 2;
         j += 1;
     }
@@ -230,7 +226,7 @@ fn read_bits(s: &[u8], n: usize, start: usize, w: usize, out: &mut [u8]) -> Answ
     answer(0, 0, n)
 }
 
-pub fn read(s: &[u8], out: &mut [u8]) -> Answer {
+pub(crate) fn read(s: &[u8], out: &mut [u8]) -> Answer {
     let form = number_at(s, 0);
     if form.number != 0 {
         return answer(form.number, form.place, 0);

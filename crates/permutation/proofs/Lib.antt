@@ -4,7 +4,3 @@ pub mod Pigeons
 pub mod Tables
 pub mod Inverses
 pub mod Laws
-pub mod Records
-pub mod Fillings
-pub mod Replies
-pub mod Accepted

@@ -1,4 +1,4 @@
--- Laws of `tabulate`, and lists compared entry by entry.
+-- Laws of `tabulate`, and of lists of one value.
 -- Assumes nothing.
 use mathlib.Core.Path.{_≡_, refl, sym, _∙_}
 use mathlib.Core.List.{List, [], _∷_, _++_, append-assoc}
@@ -6,9 +6,14 @@ use Prim.Native.Nat.{ℕ, zero, suc, _+_, _<_}
 use native.Mathlib.Numerals.{add-one}
 use native.Mathlib.Omega.{arith}
 use native.Mathlib.Decide.{decLt}
-use lib.ListN.{length, getD, set, length-append, List·getD-append}
+use lib.ListN.{length, getD, set, replicate, length-append, List·getD-append}
 use lib.Seq.{getD-at, set-at, ext-getD}
 use Rattle.permutation.specs.Permutations.{tabulate}
+
+pub getD-blank : {A : Type 0} (n i : ℕ) (a : A) → getD (replicate n a) i a ≡ a
+getD-blank zero i a = refl
+getD-blank (suc n) zero a = refl
+getD-blank (suc n) (suc i) a = getD-blank n i a
 
 module _ (f : ℕ → ℕ) where
   pub length-tabulate : (n : ℕ) → length (tabulate f n) ≡ n

@@ -2,8 +2,8 @@
 use answers::Answer;
 ghost use mathlib.Core.Path.{_≡_};
 ghost use mathlib.Core.Bool.{true};
-ghost use Prim.Native.Nat.{_*_, _≤_};
-ghost use Rattle.tally.specs.Tallies.{nothing, one, counted};
+ghost use Prim.Native.Nat.{_+_, _^_, _%_, _≤_};
+ghost use Rattle.tally.specs.Tallies.{nothing, one, counted, blockBytes, random, scrambled};
 
 // How many outcomes were compared, and how many of them were equal.
 pub struct Tally {
@@ -35,9 +35,9 @@ pub fn tallied(t: Tally, same: bool) -> Tally
     }
 }
 
-// Whether two answers are the same: true is said only of such.
+// Whether two answers are the same: true is said of such, and only of such.
 pub fn same_answer(a: Answer, b: Answer) -> bool
-    ensures { λ r. ⌜ (r ≡ true → a ≡ b) ⌝ }
+    ensures { λ r. ⌜ (r ≡ true → a ≡ b) × (a ≡ b → r ≡ true) ⌝ }
 {
     if a.number != b.number {
         return false;
@@ -51,9 +51,9 @@ pub fn same_answer(a: Answer, b: Answer) -> bool
     true
 }
 
-// Whether two slices hold the same words: true is said only of such.
+// Whether two slices hold the same words: true is said of such, and only of such.
 pub fn same_words(a: &[u16], b: &[u16]) -> bool
-    ensures { λ r. ⌜ (r ≡ true → now (a .entry) ≡ now (b .entry)) ⌝ }
+    ensures { λ r. ⌜ (r ≡ true → now (a .entry) ≡ now (b .entry)) × (now (a .entry) ≡ now (b .entry) → r ≡ true) ⌝ }
 {
     if a.len() != b.len() {
         return false;
@@ -70,7 +70,7 @@ pub fn same_words(a: &[u16], b: &[u16]) -> bool
 
 // The bytes of n blocks, where n and the width are what a call takes; else 0.
 pub fn times(n: usize, width: usize) -> usize
-    ensures { λ r. ⌜ (r ≤ 262144) × (n ≤ 1024 → width ≤ 256 → r ≡ n * width) ⌝ }
+    ensures { λ r. ⌜ (r ≤ 262144) × (r ≡ blockBytes n width) ⌝ }
 {
     if 1024 < n {
         return 0;
@@ -79,6 +79,30 @@ pub fn times(n: usize, width: usize) -> usize
         return 0;
     }
     n * width
+}
+
+// ---- what the second computations share
+
+// The sum in a machine's word: it wraps.
+pub fn add(a: usize, b: usize) -> usize
+    ensures { λ r. ⌜ r ≡ (a + b) % 2 ^ 64 ⌝ }
+{
+    std::num::wrapping_add_usize(a, b)
+}
+
+// Two pseudo-random sequences, each number from the one before.
+pub fn random(x: u32) -> u32
+    ensures { λ r. ⌜ r ≡ random x ⌝ }
+{
+    (x % 65537 * 75 + 74) % 65537
+}
+
+pub fn next(x: u32) -> u32
+    ensures { λ r. ⌜ r ≡ scrambled x ⌝ }
+{
+    let a = x ^ (x << 13);
+    let b = a ^ (a >> 17);
+    b ^ (b << 5)
 }
 
 // A line with both numbers. What is written out cannot be promised.

@@ -1,7 +1,7 @@
 -- Assumes nothing.
 use mathlib.Core.Path.{ap, _∙_}
-use Rattle.permutation.specs.declared.Permutation.{Permutation}
-use Rattle.permutation.specs.Records.{combineCall}
+use Rattle.permutation_record.specs.declared.Permutation.{Permutation}
+use Rattle.permutation_record.specs.Records.{combineCall}
 use Rattle.capi.specs.Crossing.{recordIn}
 use Rattle.capi.proofs.Crossing.{reply-crosses}
 use borrow.Author.Needs.{needs}

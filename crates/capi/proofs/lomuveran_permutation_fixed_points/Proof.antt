@@ -1,7 +1,7 @@
 -- Assumes nothing.
 use mathlib.Core.Path.{ap, _∙_}
-use Rattle.permutation.specs.declared.Reply.{Reply}
-use Rattle.permutation.specs.Records.{fixedPointsCall}
+use Rattle.permutation_record.specs.declared.Reply.{Reply}
+use Rattle.permutation_record.specs.Records.{fixedPointsCall}
 use borrow.Author.Needs.{needs}
 use Rattle.capi.proofs.lomuveran_permutation_fixed_points.Statement.{statement}
 use Rattle.capi.proofs.lomuveran_permutation_fixed_points.Tie as tie

@@ -1,6 +1,6 @@
 -- Assumes nothing.
 use mathlib.Core.Path.{ap, _∙_}
-use Rattle.permutation.specs.declared.Reply.{Reply}
+use Rattle.permutation_record.specs.declared.Reply.{Reply}
 use borrow.Author.Needs.{needs}
 use Rattle.capi.proofs.lomuveran_permutation_from_list.Statement.{statement}
 use Rattle.capi.proofs.lomuveran_permutation_from_list.Tie as tie

@@ -3,8 +3,8 @@
 use borrow.Author.Needs.{needs}
 use Rattle.check_permutation.proofs.check_calls.Statement.{statement}
 use Rattle.check_permutation.proofs.check_calls.Tie as tie
-use Rattle.permutation.proofs.Permutation.combine.Reads as Permutation-combine-reads
-use Rattle.permutation.proofs.Permutation.inverse.Reads as Permutation-inverse-reads
+use Rattle.permutation_record.proofs.Permutation.combine.Reads as Permutation-combine-reads
+use Rattle.permutation_record.proofs.Permutation.inverse.Reads as Permutation-inverse-reads
 
 inverse-requires : tie.Need-inverse-requires
 inverse-requires c κs = search needs

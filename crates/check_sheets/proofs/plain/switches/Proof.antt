@@ -17,14 +17,14 @@ loop-holds c = search needs
 add-i : tie.Need-add-i Inv-loop μ-loop
 add-i c = search needs
 
-plus-requires : tie.Need-plus-requires Inv-loop μ-loop
-plus-requires c κs = search needs
+add-requires : tie.Need-add-requires Inv-loop μ-loop
+add-requires c κs = search needs
 
-plus-requires-2 : tie.Need-plus-requires-2 Inv-loop μ-loop
-plus-requires-2 c κs = search needs
+add-requires-2 : tie.Need-add-requires-2 Inv-loop μ-loop
+add-requires-2 c κs = search needs
 
-plus-requires-3 : tie.Need-plus-requires-3 Inv-loop μ-loop
-plus-requires-3 c κs = search needs
+add-requires-3 : tie.Need-add-requires-3 Inv-loop μ-loop
+add-requires-3 c κs = search needs
 
 loop-less : tie.Need-loop-less Inv-loop μ-loop
 loop-less c = search needs
@@ -43,9 +43,9 @@ switches-spec =
     μ-loop
     loop-holds
     add-i
-    plus-requires
-    plus-requires-2
-    plus-requires-3
+    add-requires
+    add-requires-2
+    add-requires-3
     loop-less
     loop-again
     returns)

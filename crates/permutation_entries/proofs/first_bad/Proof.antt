@@ -1,0 +1,79 @@
+-- `permutation_entries::first_bad` meets its contract.
+-- Assumes nothing.
+use borrow.Author.Needs.{needs}
+use mathlib.Core.Path.{_≡_, sym, _∙_}
+use Prim.Native.Nat.{_-_, _≤_}
+use native.Mathlib.Omega.{arith}
+use lib.ListN.{length}
+use lib.Seq.{length-take-le}
+use Rattle.permutation_entries.specs.Entries.{goodInRecord}
+use Rattle.permutation.proofs.Sweeps.{Sweeping, sweeping-from, sweeping-more, sweeping-ends}
+use Rattle.permutation_entries.proofs.Entries.{good-past, front-bad}
+use Rattle.permutation_entries.proofs.first_bad.Statement.{statement}
+use Rattle.permutation_entries.proofs.first_bad.Tie as tie
+
+abbrev Inv-loop : tie.InvT-loop
+Inv-loop n e low₀ i₀ low i = (n ≤ i) × Sweeping (goodInRecord n e) 1024 low i
+
+abbrev μ-loop : tie.MeasureT-loop
+μ-loop n e low₀ i₀ low i = 1024 - i
+
+array-share-prefix-e : tie.Need-array-share-prefix-e Inv-loop μ-loop
+array-share-prefix-e c = let e : length (c .args .t2) ≡ 1024 = search needs in omega arith
+
+slice-aggregate-first-bad-entry : tie.Need-slice-aggregate-first-bad-entry Inv-loop μ-loop
+slice-aggregate-first-bad-entry c = let e : length (c .before .args .t2) ≡ 1024 = search needs in sym (length-take-le _ _ (omega arith))
+
+first-bad-entry-requires : tie.Need-first-bad-entry-requires Inv-loop μ-loop
+first-bad-entry-requires c κs =
+    let a = c .before .args in
+    let e : length (a .t2) ≡ 1024 = search needs in
+    omega (arith, length-take-le (a .n) (a .t2) (omega arith))
+
+loop-holds : tie.Need-loop-holds Inv-loop μ-loop
+loop-holds c =
+    let a = c .before .before .args in
+    let e : length (a .t2) ≡ 1024 = search needs in
+    (omega arith, sweeping-from _ _ _ (omega arith) (c .first-bad-entry .ensures ∙ front-bad (a .n) (a .t2) (omega arith)))
+
+mul-sweep : tie.Need-mul-sweep Inv-loop μ-loop
+mul-sweep c = search needs
+
+array-read-sweep : tie.Need-array-read-sweep Inv-loop μ-loop
+array-read-sweep c = search needs
+
+sweep-requires : tie.Need-sweep-requires Inv-loop μ-loop
+sweep-requires c κs = search needs
+
+add-i : tie.Need-add-i Inv-loop μ-loop
+add-i c = search needs
+
+loop-less : tie.Need-loop-less Inv-loop μ-loop
+loop-less c = search needs
+
+loop-again : tie.Need-loop-again Inv-loop μ-loop
+loop-again c =
+    let a = c .before .before .before .before .before .args in
+    let at = c .before .before .loop in
+    (omega arith, sweeping-more _ _ (omega arith) (sym (good-past (a .n) (a .t2) (at .i) (at .inv .0))) (c .sweep .ensures) (at .inv .1))
+
+returns : tie.Need-returns Inv-loop μ-loop
+returns c = sweeping-ends _ _ (c .loop-test .left) (c .before .loop .inv .1)
+
+pub first-bad-spec : {M : Type 1} → statement M
+first-bad-spec =
+    tie.close
+    (tie.spec
+    Inv-loop
+    μ-loop
+    array-share-prefix-e
+    slice-aggregate-first-bad-entry
+    first-bad-entry-requires
+    loop-holds
+    mul-sweep
+    array-read-sweep
+    sweep-requires
+    add-i
+    loop-less
+    loop-again
+    returns)

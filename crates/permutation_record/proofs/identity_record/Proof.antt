@@ -1,0 +1,20 @@
+-- `permutation_record::identity_record` meets its contract.
+-- Assumes nothing.
+use mathlib.Core.Path.{_∙_}
+use Rattle.permutation.proofs.Laws.{identity-length}
+use Rattle.permutation_record.proofs.Records.{is-record-of}
+use borrow.Author.Needs.{needs}
+use Rattle.permutation_record.proofs.identity_record.Statement.{statement}
+use Rattle.permutation_record.proofs.identity_record.Tie as tie
+
+identity-requires : tie.Need-identity-requires
+identity-requires c κs = search needs
+
+build-requires : tie.Need-build-requires
+build-requires c κs = search needs
+
+returns : tie.Need-returns
+returns c = c .build .ensures ∙ is-record-of _ _ (identity-length _) (c .before .identity .ensures)
+
+pub identity-record-spec : {M : Type 1} → statement M
+identity-record-spec = tie.close (tie.spec identity-requires build-requires returns)

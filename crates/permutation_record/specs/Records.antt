@@ -1,0 +1,74 @@
+-- The permutation record and its calls (01: open order, a record by value of the length and 1,024 entries, those past the
+-- length 0). Assumes nothing: these are definitions.
+use mathlib.Core.Path.{_≡_}
+use mathlib.Core.Bool.{_&&_}
+use mathlib.Core.List.{List, [], _∷_, _++_}
+use Prim.Native.Nat.{ℕ}
+use lib.Dec.{leb, ltb, eqb}
+use lib.ListN.{length, take}
+use Rattle.answers.specs.Questions.{Question, ask, askEach, Verdict, allYes, noAt, firstNo}
+use Rattle.answers.specs.Outcomes.{answerOf}
+use Rattle.permutation.specs.Permutations.{goodEntry, identity, exchanged, combined, inverted, fixedPoints}
+use Rattle.permutation_entries.specs.Entries.{padded, goodInRecord}
+use Rattle.permutation_record.specs.declared.Permutation.{Permutation}
+use Rattle.permutation_record.specs.declared.Reply.{Reply}
+
+-- ---- the record
+
+-- the record of a list: the one place where a record is made
+unfoldable pub recordOf : List ℕ → Permutation
+recordOf es = record { length = length es; entries = padded es }
+
+-- the list of a record
+abbrev pub listOf : Permutation → List ℕ
+listOf p = take (p .length) (p .entries)
+
+-- ---- its questions
+
+-- 1 and 6 of a record handed in
+abbrev pub questionsOf : Permutation → List Question
+questionsOf p = ask 1 0 (leb (p .length) 1024) ∷ askEach 6 (goodInRecord (p .length) (p .entries)) 1024 ∷ []
+
+-- a record that passes them
+abbrev pub WellFormed : Permutation → Type 0
+WellFormed p = firstNo (questionsOf p) ≡ allYes
+
+-- 01: with records handed in 1 and 6 of each, first record first, then 14 or 15
+abbrev pub exchangeAsks : Permutation → ℕ → ℕ → List Question
+exchangeAsks p i j = questionsOf p ++ (ask 14 0 (ltb i (p .length) && ltb j (p .length)) ∷ [])
+
+abbrev pub combineAsks : Permutation → Permutation → List Question
+combineAsks p q = questionsOf p ++ (questionsOf q ++ (ask 15 0 (eqb (p .length) (q .length)) ∷ []))
+
+abbrev pub fromListAsks : List ℕ → List Question
+fromListAsks es = ask 1 0 (leb (length es) 1024) ∷ askEach 6 (goodEntry (length es) es) (length es) ∷ []
+
+-- ---- what a call comes to
+
+abbrev pub recordAfter : Verdict → Permutation → Permutation → Permutation
+recordAfter allYes result handed = result
+recordAfter (noAt q p) result handed = handed
+
+-- a call that asks, then reports `count` and gives `result`; refused, it gives back what it was handed
+unfoldable pub replied : List Question → ℕ → Permutation → Permutation → Reply
+replied qs count result handed = record { answer = answerOf (firstNo qs) count; permutation = recordAfter (firstNo qs) result handed }
+
+-- 01: fresh. Handed no record, it gives the record of length 0 where it is refused
+abbrev pub identityCall : ℕ → Reply
+identityCall n = replied (ask 1 0 (leb n 1024) ∷ []) 0 (recordOf (identity n)) (recordOf [])
+
+abbrev pub fromListCall : List ℕ → Reply
+fromListCall es = replied (fromListAsks es) 0 (recordOf es) (recordOf [])
+
+abbrev pub exchangeCall : Permutation → ℕ → ℕ → Reply
+exchangeCall p i j = replied (exchangeAsks p i j) 0 (recordOf (exchanged (listOf p) i j)) p
+
+abbrev pub combineCall : Permutation → Permutation → Reply
+combineCall p q = replied (combineAsks p q) 0 (recordOf (combined (listOf p) (listOf q))) p
+
+abbrev pub inverseCall : Permutation → Reply
+inverseCall p = replied (questionsOf p) 0 (recordOf (inverted (listOf p))) p
+
+-- 01: the number of entries that stay home, counted on each asking; the record handed in comes back
+abbrev pub fixedPointsCall : Permutation → Reply
+fixedPointsCall p = replied (questionsOf p) (fixedPoints (listOf p)) p p

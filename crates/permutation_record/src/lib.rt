@@ -1,0 +1,177 @@
+// The permutation record and its calls (01: open order).
+ghost use mathlib.Core.Path.{_≡_};
+ghost use Prim.Native.Nat.{_≤_, _<_};
+ghost use lib.ListN.{length};
+ghost use Rattle.answers.specs.Questions.{firstNo};
+ghost use Rattle.answers.specs.Outcomes.{answerOf};
+ghost use Rattle.permutation.specs.Permutations.{IsPermutation, identity, exchanged, combined, inverted};
+ghost use Rattle.permutation_record.specs.Records.{questionsOf, WellFormed, recordOf, listOf, identityCall, fromListCall, exchangeCall, combineCall, inverseCall, fixedPointsCall};
+
+// A permutation of 0 .. length - 1 by value; the entries past the length are 0. Any record can arrive: the fields are
+// public, so each call asks questions 1 and 6 of what it is handed.
+pub struct Permutation {
+    pub length: usize,
+    pub entries: [u16; 1024],
+}
+
+// What a call gives: its answer, and a record.
+pub struct Reply {
+    pub answer: answers::Answer,
+    pub permutation: Permutation,
+}
+
+// The one place where a record is made.
+fn build(length: usize, entries: [u16; 1024]) -> Permutation
+    ensures { λ r. ⌜ r ≡ record { length = length; entries = entries } ⌝ }
+{
+    Permutation { length, entries }
+}
+
+fn give(answer: answers::Answer, permutation: Permutation) -> Reply
+    ensures { λ r. ⌜ r ≡ record { answer = answer; permutation = permutation } ⌝ }
+{
+    Reply {
+        answer,
+        permutation,
+    }
+}
+
+// Questions 1 and 6 of a record handed in.
+fn examine(p: Permutation) -> answers::Answer
+    ensures { λ r. ⌜ r ≡ answerOf (firstNo (questionsOf p)) 0 ⌝ }
+{
+    if 1024 < p.length {
+        return answers::refuse(1, 0);
+    }
+    let e = p.entries;
+    let low = permutation_entries::first_bad(p.length, e);
+    if low < 1024 {
+        return answers::refuse(6, low);
+    }
+    answers::accept(0)
+}
+
+// ---- the records that the calls give
+
+fn identity_record(n: usize) -> Permutation
+    requires { ⌜ n ≤ 1024 ⌝ }
+    ensures { λ r. ⌜ r ≡ recordOf (identity n) ⌝ }
+{
+    build(n, permutation_entries::identity(n))
+}
+
+fn list_record(list: &[u16]) -> Permutation
+    requires { ⌜ length (now list) ≤ 1024 ⌝ }
+    ensures { λ r. ⌜ r ≡ recordOf (now (list .entry)) ⌝ }
+{
+    build(list.len(), permutation_entries::of_list(list))
+}
+
+fn exchanged_record(p: Permutation, i: usize, j: usize) -> Permutation
+    requires { ⌜ (p .length ≤ 1024) × (i < p .length) × (j < p .length) × WellFormed p ⌝ }
+    ensures { λ r. ⌜ r ≡ recordOf (exchanged (listOf p) i j) ⌝ }
+{
+    let e = p.entries;
+    build(p.length, permutation_entries::exchange(e, i, j))
+}
+
+fn combined_record(first: Permutation, second: Permutation) -> Permutation
+    requires { ⌜ (first .length ≤ 1024) × (first .length ≡ second .length) × IsPermutation (first .length) (listOf first) ⌝ }
+    ensures { λ r. ⌜ r ≡ recordOf (combined (listOf first) (listOf second)) ⌝ }
+{
+    let n = first.length;
+    let f = first.entries;
+    let s = second.entries;
+    build(n, permutation_entries::combine(n, f, s))
+}
+
+fn inverted_record(p: Permutation) -> Permutation
+    requires { ⌜ (p .length ≤ 1024) × IsPermutation (p .length) (listOf p) ⌝ }
+    ensures { λ r. ⌜ r ≡ recordOf (inverted (listOf p)) ⌝ }
+{
+    let n = p.length;
+    let e = p.entries;
+    build(n, permutation_entries::invert(n, e))
+}
+
+impl Permutation {
+    // Each place to itself (01: fresh).
+    pub fn identity(n: usize) -> Reply
+        ensures { λ r. ⌜ r ≡ identityCall n ⌝ }
+    {
+        if 1024 < n {
+            return give(answers::refuse(1, 0), identity_record(0));
+        }
+        give(answers::accept(0), identity_record(n))
+    }
+
+    pub fn from_list(list: &[u16]) -> Reply
+        ensures { λ r. ⌜ r ≡ fromListCall (now (list .entry)) ⌝ }
+    {
+        if 1024 < list.len() {
+            return give(answers::refuse(1, 0), identity_record(0));
+        }
+        let low = permutation::first_bad_entry(list);
+        if low < list.len() {
+            return give(answers::refuse(6, low), identity_record(0));
+        }
+        give(answers::accept(0), list_record(list))
+    }
+
+    pub fn exchange(self, i: usize, j: usize) -> Reply
+        ensures { λ r. ⌜ r ≡ exchangeCall self i j ⌝ }
+    {
+        let asked = examine(self);
+        if asked.number != 0 {
+            return give(asked, self);
+        }
+        if self.length <= i {
+            return give(answers::refuse(14, 0), self);
+        }
+        if self.length <= j {
+            return give(answers::refuse(14, 0), self);
+        }
+        give(asked, exchanged_record(self, i, j))
+    }
+
+    // First self, then second: entry i is second[self[i]].
+    pub fn combine(self, second: Permutation) -> Reply
+        ensures { λ r. ⌜ r ≡ combineCall self second ⌝ }
+    {
+        let asked = examine(self);
+        if asked.number != 0 {
+            return give(asked, self);
+        }
+        let then = examine(second);
+        if then.number != 0 {
+            return give(then, self);
+        }
+        if self.length != second.length {
+            return give(answers::refuse(15, 0), self);
+        }
+        give(answers::accept(0), combined_record(self, second))
+    }
+
+    pub fn inverse(self) -> Reply
+        ensures { λ r. ⌜ r ≡ inverseCall self ⌝ }
+    {
+        let asked = examine(self);
+        if asked.number != 0 {
+            return give(asked, self);
+        }
+        give(asked, inverted_record(self))
+    }
+
+    // The number of entries that stay home, as the count of the answer; the record comes back as it was handed in.
+    pub fn fixed_points(self) -> Reply
+        ensures { λ r. ⌜ r ≡ fixedPointsCall self ⌝ }
+    {
+        let asked = examine(self);
+        if asked.number != 0 {
+            return give(asked, self);
+        }
+        let e = self.entries;
+        let home = permutation_entries::fixed_points(self.length, e);
+        give(answers::accept(home), self)
+    }
+}
