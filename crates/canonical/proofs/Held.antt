@@ -82,10 +82,6 @@ module _ (m : ℕ) (o : List ℕ) (O : IsPermutation m o) where
       go (yes x) = rw (placeFor-in y x) (entry-in (placeOf o y) (place-below m o O y x) ∙ place-holds m o O y x)
       go (no x) = rw (placeFor-past y (omega arith)) (entry-past y (omega arith))
 
-  -- a search that finds a place with the value finds this one
-  pub placeFor-only : (y q : ℕ) → getD o q q ≡ y → q ≡ placeFor o y
-  placeFor-only y q e = entry-unlike q (placeFor o y) (e ∙ sym (placeFor-holds y))
-
 module _ {w : Wiring} (L : Lawful w) (k m : ℕ) (fits : m ≤ k + k) (o : List ℕ) (O : IsPermutation m o) where
   pub held-below : (p : Side) → p .0 < k → held w k o p .0 < k
   unfolding held
@@ -112,10 +108,6 @@ module _ {w : Wiring} (L : Lawful w) (k m : ℕ) (fits : m ≤ k + k) (o : List 
       ∙ ap (w .dec k) (placeFor-holds m o O (w .enc k v))
       ∙ L .dec-enc k v l
 
-  pub seat-place : (v : Side) → v .0 < k → w .enc k (seat w k o v) ≡ placeFor o (w .enc k v)
-  unfolding seat
-  seat-place v l = L .enc-dec k _ (placeFor-below m o O (k + k) _ fits (L .enc< k v l))
-
   pub mate-below : (p : Side) → p .0 < k → mate w k o p .0 < k
   unfolding mate
   mate-below p l = seat-below (other (held w k o p)) (held-below p l)
@@ -123,11 +115,6 @@ module _ {w : Wiring} (L : Lawful w) (k m : ℕ) (fits : m ≤ k + k) (o : List 
   pub mate-holds : (p : Side) → p .0 < k → held w k o (mate w k o p) ≡ other (held w k o p)
   unfolding mate
   mate-holds p l = seat-holds (other (held w k o p)) (held-below p l)
-
-  -- as a place of the network: that of the associate's number
-  pub mate-place : (p : Side) → p .0 < k → w .enc k (mate w k o p) ≡ placeFor o (w .enc k (other (held w k o p)))
-  unfolding mate
-  mate-place p l = seat-place (other (held w k o p)) (held-below p l)
 
   -- whatever place holds the associate is the mate
   pub mate-only : (p q : Side) → p .0 < k → q .0 < k → held w k o q ≡ other (held w k o p) → q ≡ mate w k o p

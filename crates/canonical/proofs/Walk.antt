@@ -12,6 +12,7 @@ use lib.ListN.{length, getD, set, replicate, List·getD-eq-default, length-set, 
 use lib.Seq.{getD-set-same, getD-set-other}
 use lib.Dec.{eqb, ltb}
 use Rattle.network.specs.Wiring.{Side}
+use Rattle.permutation.proofs.Tables.{getD-blank}
 use Rattle.canonical.specs.Rule.{Bits}
 use Rattle.canonical.proofs.Sides.{bitAt, bit-is, bit-below, other}
 use Rattle.canonical.proofs.Rings.{Matching}
@@ -134,11 +135,6 @@ module _ (k : ℕ) (mate : Side → Side) (x : Walk) (Z : Lengths k x) where
         }
 
 -- ---- all rounds
-
-getD-blank : {A : Type 0} (n i : ℕ) (a : A) → getD (replicate n a) i a ≡ a
-getD-blank zero i a = refl
-getD-blank (suc n) zero a = refl
-getD-blank (suc n) (suc i) a = getD-blank n i a
 
 pub walk-lengths : (n k : ℕ) (mate : Side → Side) → 0 < k → Lengths k (walk n k mate)
 unfolding Bits

@@ -1,26 +1,17 @@
 -- Cutting bytes into blocks and putting blocks together undo each other, and both respect block boundaries.
 -- Assumes nothing.
-use mathlib.Core.Bool.{Bool, true, false, cond}
 use mathlib.Core.Path.{_≡_, refl, sym, ap, _∙_}
-use mathlib.Core.List.{List, [], _∷_, _++_, append-assoc}
+use mathlib.Core.List.{List, [], _∷_, _++_}
 use Prim.Native.Nat.{ℕ, zero, suc, _+_, _*_, _≤_, _<_}
 use native.Mathlib.Nat.{suc-mul, zero-mul, zero-add, suc-add, mul-le-mul-right}
 use native.Mathlib.Omega.{arith}
-use native.Mathlib.Decide.{ℕ-discrete}
-use lib.Dec.{eqb}
-use lib.ListN.{length, getD, set, take, drop, length-append, length-drop, length-set}
-use lib.Seq.{take-add, take-all, take-at, take-nil, take-take, take-append-le, drop-at, drop-drop, drop-append-le, length-take-le, getD-set-same, getD-set-other}
-use Rattle.network.specs.Move.{switch}
+use lib.ListN.{length, getD, take, drop, length-append, length-drop}
+use lib.Seq.{take-add, take-all, take-at, take-nil, take-take, take-append-le, drop-at, drop-drop, drop-append-le, length-take-le}
 use Rattle.network.specs.Blocks.{cut, bytesOf}
 
 -- every block has the width
 abbrev pub Wide : ℕ → List (List ℕ) → Type 0
 Wide width bs = (i : ℕ) → i < length bs → length (getD bs i []) ≡ width
-
-pub bytesOf-append : (a b : List (List ℕ)) → bytesOf (a ++ b) ≡ bytesOf a ++ bytesOf b
-unfolding bytesOf
-bytesOf-append [] b = refl
-bytesOf-append (x ∷ a) b = rw (bytesOf-append a b) (sym (append-assoc x (bytesOf a) (bytesOf b)))
 
 drop-of-take : (n r : ℕ) (l : List ℕ) → drop n (take (n + r) l) ≡ take r (drop n l)
 drop-of-take zero r l = rw (zero-add r)
@@ -110,43 +101,3 @@ module _ (width : ℕ) where
       let more : suc p * width ≡ width + p * width = omega (arith, suc-mul p width) in
       let one : suc p + q ≡ suc (p + q) = omega arith in
       rw (one, cut, more, ← drop-drop (p * width) width bytes) (drop-cut p q (drop width bytes))
-
-  -- block i put in place of the old one, in bytes and in blocks
-  pub cut-set :
-      (n i : ℕ) (b bytes : List ℕ) → i < n → length b ≡ width → n * width ≤ length bytes
-      → cut width n (take (i * width) bytes ++ (b ++ drop (i * width + width) bytes)) ≡ set (cut width n bytes) i b
-  unfolding cut
-  cut-set zero i b bytes h l e = absurd (omega arith)
-  cut-set (suc n) zero b bytes h l e =
-      rw (zero-mul width, zero-add width, take-at b (drop width bytes) width l, drop-at b (drop width bytes) width l)
-  cut-set (suc n) (suc i) b bytes h l e =
-      let more : suc i * width ≡ width + i * width = omega (arith, suc-mul i width) in
-      let end : suc i * width + width ≡ width + (i * width + width) = omega (arith, suc-mul i width) in
-      let size : n * width + width ≤ length bytes = omega (arith, suc-mul n width) in
-      let front : length (take width bytes) ≡ width = length-take-le width bytes (omega arith) in
-      let tail = take (i * width) (drop width bytes) ++ (b ++ drop (i * width + width) (drop width bytes)) in
-      let apart : take (suc i * width) bytes ++ (b ++ drop (suc i * width + width) bytes) ≡ take width bytes ++ tail =
-      rw (end, more, take-add width (i * width) bytes, append-assoc, ← drop-drop (i * width + width) width bytes) in
-      rw (apart, take-at (take width bytes) tail width front, drop-at (take width bytes) tail width front)
-      (ap
-      (λ (r : List (List ℕ)). take width bytes ∷ r)
-      (cut-set n i b (drop width bytes) (omega arith) l (rw length-drop (omega arith))))
-
-  pub set-wide : (bs : List (List ℕ)) (i : ℕ) (b : List ℕ) → Wide width bs → length b ≡ width → Wide width (set bs i b)
-  set-wide bs i b wide l j h = go (ℕ-discrete j i)
-    where
-      below : j < length bs
-      below = rw length-set at h
-
-      go : Dec (j ≡ i) → length (getD (set bs i b) j []) ≡ width
-      go (yes e) = rw (e, getD-set-same bs i b [] (rw e at below)) l
-      go (no ne) = rw (getD-set-other bs i j b [] ne) (wide j below)
-
-  pub switch-wide :
-      (p q bit : ℕ) (bs : List (List ℕ)) → Wide width bs → p < length bs → q < length bs → Wide width (switch [] p q bit bs)
-  unfolding switch
-  switch-wide p q bit bs wide hp hq = go (eqb bit 1)
-    where
-      go : (b : Bool) → Wide width (cond b (set (set bs p (getD bs q [])) q (getD bs p [])) bs)
-      go true = set-wide (set bs p (getD bs q [])) q (getD bs p []) (set-wide bs p (getD bs q []) wide (wide q hq)) (wide p hp)
-      go false = wide

@@ -5,10 +5,11 @@ use mathlib.Core.Path.{_≡_, refl}
 use mathlib.Core.List.{List, [], _∷_}
 use Prim.Native.Nat.{ℕ}
 use Rattle.counts.specs.Counts.{W, byHalves}
+use Rattle.permutation.specs.Permutations.{tabulate}
 use Rattle.network.specs.Wiring.{paper}
 use Rattle.network.specs.Network.{network, networkIn, switchCount}
 use Rattle.network.specs.Move.{switch, layer, layerBack, part, joined, forward, backward}
-use Rattle.network.specs.Blocks.{cut, bytesOf, moved, movedBack, counting, orderOf}
+use Rattle.network.specs.Blocks.{cut, bytesOf, moved, movedBack, orderOf}
 use Rattle.network.specs.Log.{words, layerEntries, switches, applyEntries, inverseEntries, runEntry, runFrom, runApply, runInverse}
 
 -- the setting of case g
@@ -30,7 +31,7 @@ unfolding network networkIn switchCount switch layerBack part joined backward cu
 case-i = refl
 
 pub case-order : orderOf paper 9 g ≡ 6 ∷ 2 ∷ 3 ∷ 7 ∷ 5 ∷ 1 ∷ 8 ∷ 0 ∷ 4 ∷ []
-unfolding network networkIn switchCount switch layerBack part joined backward counting orderOf
+unfolding network networkIn switchCount switch layerBack part joined backward tabulate orderOf
 case-order = refl
 
 pub case-log : words (applyEntries paper 3) ≡ 7 ∷ 0 ∷ 2 ∷ 7 ∷ 0 ∷ 1 ∷ 7 ∷ 0 ∷ 2 ∷ []

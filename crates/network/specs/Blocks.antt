@@ -3,6 +3,7 @@
 use mathlib.Core.List.{List, [], _∷_, _++_}
 use Prim.Native.Nat.{ℕ, zero, suc}
 use lib.ListN.{take, drop}
+use Rattle.permutation.specs.Permutations.{identity}
 use Rattle.network.specs.Wiring.{Wiring}
 use Rattle.network.specs.Network.{network}
 use Rattle.network.specs.Move.{forward, backward}
@@ -23,11 +24,6 @@ moved w n width bits bytes = bytesOf (forward [] w (network n) bits (cut width n
 unfoldable pub movedBack : Wiring → ℕ → ℕ → List ℕ → List ℕ → List ℕ
 movedBack w n width bits bytes = bytesOf (backward [] w (network n) bits (cut width n bytes))
 
--- 0, 1, .., n - 1
-unfoldable pub counting : ℕ → List ℕ
-counting zero = []
-counting (suc n) = counting n ++ (n ∷ [])
-
 -- the order of a setting: entry i is the place to which the block at place i goes
 unfoldable pub orderOf : Wiring → ℕ → List ℕ → List ℕ
-orderOf w n bits = backward 0 w (network n) bits (counting n)
+orderOf w n bits = backward 0 w (network n) bits (identity n)

@@ -4,9 +4,9 @@
 use mathlib.Core.Path.{_≡_, refl, sym, ap, _∙_, subst}
 use mathlib.Core.Bool.{true, false}
 use mathlib.Core.List.{List}
-use Prim.Native.Nat.{ℕ, zero, suc, _≤_, _<_}
+use Prim.Native.Nat.{ℕ, _≤_, _<_}
 use native.Mathlib.Omega.{arith}
-use lib.ListN.{length, getD, replicate, length-replicate}
+use lib.ListN.{length, getD, length-replicate}
 use lib.Seq.{take-all}
 use Rattle.counts.specs.Counts.{up, W}
 use Rattle.counts.proofs.Rule.{W-none}
@@ -14,6 +14,7 @@ use Rattle.network.specs.Wiring.{Wiring, Lawful}
 use Rattle.network.specs.Network.{Network, wires, network}
 use Rattle.network.proofs.Shape.{Sized, none, some, sized, count-of}
 use Rattle.permutation.specs.Permutations.{IsPermutation}
+use Rattle.permutation.proofs.Tables.{getD-blank}
 use Rattle.canonical.specs.Rule.{Canonical}
 use Rattle.canonical.proofs.Only.{canonical-unique}
 use Rattle.steps.specs.State.{State, Subnetwork, start}
@@ -75,11 +76,6 @@ pub record Begins (n : ℕ) (o : List ℕ) (x : State) : Type 0 where
   pub values-are : (i : ℕ) → i < n → getD (x .values) i 0 ≡ getD o i 0
   pub unmarked : (i : ℕ) → getD (x .marks) i 0 ≡ 0
 
-blank : (n i : ℕ) → _≡_ {A = ℕ} (getD (replicate n 0) i 0) 0
-blank zero i = refl
-blank (suc n) zero = refl
-blank (suc n) (suc i) = blank n i
-
 -- so the table starts
 pub start-begins : (n : ℕ) (o : List ℕ) → IsPermutation n o → Begins n o (start o)
 start-begins n o O =
@@ -89,7 +85,7 @@ start-begins n o O =
       marks-room = omega (arith, length-replicate {A = ℕ} (up (length o)) 0, O .whole);
       bits-count = length-replicate (W (length o)) 0 ∙ ap W (O .whole);
       values-are = λ i _. refl;
-      unmarked = blank (up (length o));
+      unmarked = λ i. getD-blank (up (length o)) i 0;
     }
 
 module _ {w : Wiring} (L : Lawful w) (n : ℕ) (o : List ℕ) (O : IsPermutation n o) where
