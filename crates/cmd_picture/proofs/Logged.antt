@@ -8,7 +8,7 @@ use native.Mathlib.Nat.{mul-one, zero-mul, suc-mul, mul-le-mul-right}
 use native.Mathlib.Omega.{arith}
 use borrow.Author.Tests.{leb-true}
 use lib.Dec.{leb}
-use lib.ListN.{length, getD, take, drop, length-append, List·getD-append}
+use lib.ListN.{length, getD, take, drop, length-append}
 use lib.Seq.{getD-drop, length-take-le}
 use Rattle.answers.specs.declared.Answer.{Answer}
 use Rattle.answers.specs.Questions.{firstBad, firstBadFrom}
@@ -19,8 +19,8 @@ use Rattle.answers.proofs.Buffers.{overlay-front}
 use Rattle.bits.specs.Bits.{Bits}
 use Rattle.counts.specs.Counts.{W, byHalves}
 use Rattle.network.specs.Wiring.{paper}
-use Rattle.network.specs.Log.{Entry, entryWords, words, applyEntries}
-use Rattle.network.proofs.Shape.{length-words, length-applyEntries}
+use Rattle.network.specs.Log.{Entry, entry, entryWords, words, entryAt, applyEntries}
+use Rattle.network.proofs.Shape.{entryAt-front, length-applyEntries}
 use Rattle.permutation.specs.Permutations.{tabulate}
 use Rattle.permutation.proofs.Tables.{is-tabulate}
 use Rattle.apply.specs.Calls.{applyCall}
@@ -37,31 +37,31 @@ unfolding columns
 columns-length [] bits place = refl
 columns-length (e ∷ es) bits place = ap suc (columns-length es _ place)
 
-columns-at : (es : List Entry) (bits : List ℕ) (place e : ℕ) → e < length es → getD (columns es bits place) e 0 ≡ markIn (words es) bits place e
-unfolding columns words
+-- what an entry shows at a place
+abbrev markOf : Entry → ℕ → ℕ → ℕ
+markOf x bit place = mark (x .first) (x .second) bit place
+
+columns-at : (es : List Entry) (bits : List ℕ) (place e : ℕ) → e < length es
+    → getD (columns es bits place) e 0 ≡ markOf (getD es e (entry 0 0 0)) (getD bits e 0) place
+unfolding columns
 columns-at [] bits place e h = absurd (omega arith)
 columns-at (x ∷ es) bits place zero h = refl
 columns-at (x ∷ es) bits place (suc e) h =
-    let a : entryWords * suc e + 1 ≡ suc (suc (suc (entryWords * e + 1))) = omega arith in
-    let b : entryWords * suc e + 2 ≡ suc (suc (suc (entryWords * e + 2))) = omega arith in
     let z : 1 + e ≡ suc e = omega arith in
     let d : getD (drop 1 bits) e 0 ≡ getD bits (suc e) 0 = getD-drop 1 bits e 0 ∙ ap (λ i. getD bits i 0) z in
-    columns-at es (drop 1 bits) place e (omega arith)
-    ∙ ap (λ v. mark (getD (words es) (entryWords * e + 1) 0) (getD (words es) (entryWords * e + 2) 0) v place) d
-    ∙ rw (a, b)
+    columns-at es (drop 1 bits) place e (omega arith) ∙ ap (λ v. markOf (getD es e (entry 0 0 0)) v place) d
 
 module _ (before : List ℕ) (es : List Entry) (bits : List ℕ) (count : length bits ≡ length es) {log : List ℕ} (written : log ≡ overlay before 0 (words es)) where
-  word-in : (i : ℕ) → i < entryWords * length es → getD log i 0 ≡ getD (words es) i 0
-  word-in i h =
-      ap (λ l. getD l i 0) (written ∙ overlay-front before (words es))
-      ∙ List·getD-append (words es) (drop (length (words es)) before) 0 i (omega (arith, length-words es))
+  entry-in : (e : ℕ) → e < length es → entryAt log e ≡ getD es e (entry 0 0 0)
+  entry-in e h =
+      ap (λ l. entryAt l e) (written ∙ overlay-front before (words es)) ∙ entryAt-front es (drop (length (words es)) before) e h
 
   columns-in : (place : ℕ) → columnsIn log bits place ≡ columns es bits place
   columns-in place =
       sym
       (is-tabulate (markIn log bits place) (length bits) (columns es bits place) (columns-length es bits place ∙ sym count)
       (λ e h. columns-at es bits place e (omega arith)
-      ∙ sym (rw (word-in (entryWords * e + 1) (omega arith), word-in (entryWords * e + 2) (omega arith)))))
+      ∙ ap (λ x. markOf x (getD bits e 0) place) (sym (entry-in e (omega arith)))))
 
   pub rows-in : (n : ℕ) → rowsIn log bits n ≡ rows es bits n
   unfolding rowsIn rows
@@ -81,7 +81,7 @@ pub picture-in :
     → length bits ≡ W n
     → Bits bits
     → length blocks ≡ n
-    → length log ≡ 147
+    → length log ≡ entryWords * 49
     → logged a after log′ ≡ applyCall n 1 blocks bits log
     → rowsIn log′ bits n ≡ picture n bits
 unfolding picture
@@ -101,7 +101,7 @@ picture-in n bits blocks log few count areBits long room e =
     (ap (λ (o : Logged). o .log) (e ∙ apply-accepted n 1 blocks bits log f)) n
 
 -- room in the log for each switch
-pub log-room : (n : ℕ) (bits log : List ℕ) → n ≤ 16 → length bits ≡ W n → length log ≡ 147 → entryWords * length bits ≤ length log
+pub log-room : (n : ℕ) (bits log : List ℕ) → n ≤ 16 → length bits ≡ W n → length log ≡ entryWords * 49 → entryWords * length bits ≤ length log
 log-room n bits log h e l = omega (arith, small n h)
 
 -- how long the text gets: a row is four bytes and one for each switch

@@ -1,15 +1,15 @@
--- The same rows, from a log of mixing: each entry is its kind and the two places of its switch.
+-- The same rows, from a log of mixing: each entry has the two places of its switch.
 -- Assumes nothing: these are definitions.
 use mathlib.Core.List.{List, [], _++_}
-use Prim.Native.Nat.{ℕ, zero, suc, _+_, _*_}
+use Prim.Native.Nat.{ℕ, zero, suc}
 use lib.ListN.{length, getD}
-use Rattle.network.specs.Log.{entryWords}
+use Rattle.network.specs.Log.{entryAt}
 use Rattle.permutation.specs.Permutations.{tabulate}
 use Rattle.cmd_lines.specs.Text.{text}
 use Rattle.cmd_picture.specs.Picture.{mark, label}
 
 abbrev pub markIn : List ℕ → List ℕ → ℕ → ℕ → ℕ
-markIn log bits place e = mark (getD log (entryWords * e + 1) 0) (getD log (entryWords * e + 2) 0) (getD bits e 0) place
+markIn log bits place e = mark (entryAt log e .first) (entryAt log e .second) (getD bits e 0) place
 
 abbrev pub columnsIn : List ℕ → List ℕ → ℕ → List ℕ
 columnsIn log bits place = tabulate (markIn log bits place) (length bits)

@@ -17,7 +17,7 @@ pub fn put_picture(out: &mut [u8], at: usize, n: usize, bits: &[u8]) -> usize
     ensures { λ r. ⌜ Put (now (out .entry)) at (picture n (now (bits .entry))) r (now (out .exit)) ⌝ }
 {
     let mut blocks = [0u8; 16];
-    let mut log = [0u16; 147];
+    let mut log = [0u16; entry_log::ENTRY_WORDS * 49];
     apply::apply(n, 1, &mut blocks[..n], bits, &mut log);
     put_rows(out, at, n, bits, &log)
 }
@@ -72,8 +72,8 @@ fn put_columns(out: &mut [u8], at: usize, place: usize, bits: &[u8], log: &[u16]
 {
     let mut e = 0;
     while e < bits.len() {
-        let lower = wide(log[3 * e + 1]);
-        let upper = wide(log[3 * e + 2]);
+        let lower = entry_log::first_of(log, e);
+        let upper = entry_log::second_of(log, e);
         out[at + e] = mark_at(lower, upper, bits[e], place);
         e += 1;
     }
@@ -96,10 +96,4 @@ fn mark_at(lower: usize, upper: usize, bit: u8, place: usize) -> u8
         return b'-';
     }
     b'|'
-}
-
-fn wide(x: u16) -> usize
-    ensures { λ r. ⌜ r ≡ x ⌝ }
-{
-    x as usize
 }

@@ -5,7 +5,7 @@ ghost use mathlib.Core.List.{[], _∷_};
 ghost use Prim.Native.Nat.{_+_, _*_, _≤_, _<_};
 ghost use lib.ListN.{length};
 ghost use Rattle.answers.specs.Buffers.{overlay};
-ghost use Rattle.network.specs.Log.{entry, entryWords, words};
+ghost use Rattle.network.specs.Log.{entry, entryWords, words, entryAt};
 
 // How many words an entry has.
 pub const ENTRY_WORDS: usize = 3;
@@ -19,4 +19,25 @@ pub fn write_entry(log: &mut [u16], e: usize, kind: u16, first: usize, second: u
     log[at] = kind;
     log[at + 1] = first as u16;
     log[at + 2] = second as u16;
+}
+
+// The two numbers of the log's entry number e.
+pub fn first_of(log: &[u16], e: usize) -> usize
+    requires { ⌜ entryWords * (e + 1) ≤ length (now log) ⌝ }
+    ensures { λ r. ⌜ r ≡ entryAt (now (log .entry)) e .first ⌝ }
+{
+    wide(log[ENTRY_WORDS * e + 1])
+}
+
+pub fn second_of(log: &[u16], e: usize) -> usize
+    requires { ⌜ entryWords * (e + 1) ≤ length (now log) ⌝ }
+    ensures { λ r. ⌜ r ≡ entryAt (now (log .entry)) e .second ⌝ }
+{
+    wide(log[ENTRY_WORDS * e + 2])
+}
+
+fn wide(x: u16) -> usize
+    ensures { λ r. ⌜ r ≡ x ⌝ }
+{
+    x as usize
 }

@@ -8,7 +8,7 @@ use Prim.Native.Nat.{ℕ, zero, suc, _+_, _-_, _*_, _≤_, _<_}
 use native.Mathlib.Omega.{arith}
 use native.Mathlib.Decide.{decLt}
 use lib.Dec.{eqb}
-use lib.ListN.{length, getD, set, take, length-append, length-set, length-reverse}
+use lib.ListN.{length, getD, set, take, length-append, length-set, length-reverse, List·getD-append}
 use lib.Seq.{take-at}
 use borrow.Author.Tests.{lt-ltb, le-ltb}
 use Rattle.counts.specs.Counts.{up, W}
@@ -16,7 +16,7 @@ use Rattle.counts.proofs.Rule.{W-none, W-more}
 use Rattle.network.specs.Wiring.{Wiring, Side}
 use Rattle.network.specs.Network.{Network, wires, split, network, networkIn, switchCount, down}
 use Rattle.network.specs.Move.{switch, layer, layerBack, part, joined, forward, backward}
-use Rattle.network.specs.Log.{Entry, entryWords, words, entries, layerEntries, switches, applyEntries, inverseEntries}
+use Rattle.network.specs.Log.{Entry, entry, entryWords, words, entries, entryAt, layerEntries, switches, applyEntries, inverseEntries}
 
 pub up+down : (m : ℕ) → up m + down m ≡ m
 up+down m = omega arith
@@ -141,6 +141,32 @@ entries-words (e ∷ es) = ap (λ (l : List Entry). e ∷ l) (entries-words es)
 -- the entries of a log: the words of a buffer, as many as the entries have
 pub entries-take : (es : List Entry) (rest : List ℕ) → entries (take (entryWords * length es) (words es ++ rest)) ≡ es
 entries-take es rest = rw (take-at (words es) rest (entryWords * length es) (length-words es)) (entries-words es)
+
+-- and with any words behind them
+entries-front : (es : List Entry) (rest : List ℕ) → entries (words es ++ rest) ≡ es ++ entries rest
+unfolding words entries
+entries-front [] rest = refl
+entries-front (e ∷ es) rest = ap (λ (l : List Entry). e ∷ l) (entries-front es rest)
+
+-- the reader of one entry reads what the reader of all does
+pub entryAt-entries : (log : List ℕ) (e : ℕ) → e < length (entries log) → entryAt log e ≡ getD (entries log) e (entry 0 0 0)
+unfolding entries
+entryAt-entries [] e h = absurd (omega arith)
+entryAt-entries (a ∷ []) e h = absurd (omega arith)
+entryAt-entries (a ∷ b ∷ []) e h = absurd (omega arith)
+entryAt-entries (a ∷ b ∷ c ∷ rest) zero h = refl
+entryAt-entries (a ∷ b ∷ c ∷ rest) (suc e) h =
+    let kind : entryWords * suc e ≡ suc (suc (suc (entryWords * e))) = omega arith in
+    let first : entryWords * suc e + 1 ≡ suc (suc (suc (entryWords * e + 1))) = omega arith in
+    let second : entryWords * suc e + 2 ≡ suc (suc (suc (entryWords * e + 2))) = omega arith in
+    rw (first, second, kind) (entryAt-entries rest e (omega arith))
+
+-- so of a log that begins with some entries it reads these
+pub entryAt-front : (es : List Entry) (rest : List ℕ) (e : ℕ) → e < length es → entryAt (words es ++ rest) e ≡ getD es e (entry 0 0 0)
+entryAt-front es rest e h =
+    let all = entries-front es rest in
+    let inside : e < length (entries (words es ++ rest)) = rw all (simp length-append (omega arith)) in
+    entryAt-entries (words es ++ rest) e inside ∙ rw all (List·getD-append es (entries rest) (entry 0 0 0) e h)
 
 module _ (w : Wiring) where
   pub length-layerEntries : (place : Side → ℕ) (c : ℕ) → length (layerEntries w place c) ≡ c

@@ -34,6 +34,10 @@ entries (a ∷ []) = []
 entries (a ∷ b ∷ []) = []
 entries (a ∷ b ∷ c ∷ rest) = entry a b c ∷ entries rest
 
+-- one entry of them, number e
+abbrev pub entryAt : List ℕ → ℕ → Entry
+entryAt log e = entry (getD log (entryWords * e) 0) (getD log (entryWords * e + 1) 0) (getD log (entryWords * e + 2) 0)
+
 module _ (w : Wiring) where
   -- the first c switches of a layer: pair i at the places that `place` gives its two sides
   unfoldable pub layerEntries : (Side → ℕ) → ℕ → List Entry
