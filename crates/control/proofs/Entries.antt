@@ -1,22 +1,20 @@
 -- The log: entries written one part behind the other, and those of a network from those of its parts.
 -- Assumes nothing.
-use mathlib.Core.Path.{_≡_, refl, sym, ap, _∙_}
-use mathlib.Core.Bool.{true, false}
+use mathlib.Core.Path.{_≡_, sym, ap, _∙_}
 use mathlib.Core.List.{List, [], _∷_, _++_, append-assoc}
-use Prim.Native.Nat.{ℕ, zero, suc, _+_, _-_, _*_, _≤_, _<_}
+use Prim.Native.Nat.{ℕ, _+_, _-_, _*_, _≤_, _<_}
 use native.Mathlib.Nat.{add-zero}
 use native.Mathlib.Numerals.{add-one}
 use native.Mathlib.Omega.{arith}
-use native.Mathlib.Decide.{decLt}
 use lib.ListN.{length, length-append}
 use borrow.Author.Tests.{lt-ltb, le-ltb}
 use Rattle.answers.proofs.Buffers.{overlay-none}
-use Rattle.counts.specs.Counts.{up, W, E}
-use Rattle.counts.proofs.Rule.{W-more, E-none, E-two, E-more}
+use Rattle.counts.specs.Counts.{up, W}
+use Rattle.counts.proofs.Rule.{W-more}
 use Rattle.network.specs.Wiring.{paper}
 use Rattle.network.specs.Network.{Network, network, switchCount}
 use Rattle.network.specs.Log.{Entry, entry, entryWords, words}
-use Rattle.network.proofs.Shape.{Sized, none, some, network-none, network-more, count-is}
+use Rattle.network.proofs.Shape.{network-none, network-more, count-is}
 use Rattle.entry_log.proofs.Written.{log-then}
 use Rattle.steps.specs.State.{State, Subnetwork, outputBit}
 use Rattle.steps.specs.Steps.{step4, step5, step6}
@@ -51,11 +49,6 @@ pub rounds-more : (i o m : ℕ) → rounds i o m ++ (entry 1 o m ∷ entry 2 o m
 unfolding rounds
 rounds-more i o m = rw (add-one i)
 
-pub length-rounds : (i o m : ℕ) → length (rounds i o m) ≡ 3 * i
-unfolding rounds
-length-rounds zero o m = refl
-length-rounds (suc i) o m = simp length-append (omega (arith, length-rounds i o m))
-
 pub round-more : (N : Subnetwork) (i : ℕ) (x : State) → roundsOf paper N 1 (roundsOf paper N i x) ≡ roundsOf paper N (i + 1) x
 unfolding roundsOf
 round-more N i x = rw (add-one i)
@@ -79,24 +72,7 @@ pub steps-some : (o m bit : ℕ) (x : State) → 3 ≤ m
 unfolding inputSteps
 steps-some o m bit x h = rw (lt-ltb 2 m h)
 
--- ---- counts of a network and of its parts
-
-pub length-input : (o m : ℕ) → 3 ≤ m → length (inputEntries o m) ≡ 3 * up m + 1
-length-input o m h =
-    ap length (sym (input-some o m h)) ∙ length-append (rounds (up m) o m) (entry 4 o m ∷ []) ∙ omega (arith, length-rounds (up m) o m)
-
-pub E-parts : (o m : ℕ) → 2 ≤ m → length (inputEntries o m) + (1 + (E (up m) + (E (m - up m) + 1))) ≡ E m
-E-parts o m two = go (decLt m 3)
-  where
-    none : _≡_ {A = ℕ} (length {A = Entry} []) 0
-    none = refl
-
-    pair : m ≡ 2 → 0 + (1 + (E (up m) + (E (m - up m) + 1))) ≡ E m
-    pair e = rw (e, E-none 1 (omega arith), E-two)
-
-    go : Dec (m < 3) → length (inputEntries o m) + (1 + (E (up m) + (E (m - up m) + 1))) ≡ E m
-    go (yes h) = rw (← input-none o m h) (pair (omega arith))
-    go (no h) = omega (arith, length-input o m (omega arith), E-more m (omega arith))
+-- ---- the bits of a network and of its parts
 
 pub W-parts : (m : ℕ) → 2 ≤ m → (up m - 1) + (W (up m) + (W (m - up m) + (m - up m))) ≡ W m
 W-parts m two = omega (arith, W-more m two)
@@ -113,14 +89,6 @@ entries-split o m two =
     ∙ rw (network-more m two, entriesOf, add-zero o)
     (ap (λ (p : ℕ → ℕ). inputEntries o m ++ (entry 5 o m ∷ (entriesOf paper (network (up m)) (λ i. o + i)
     ++ (entriesOf paper (network (m - up m)) p ++ (entry 6 o m ∷ []))))) (further o (up m)))
-
-pub length-entries : {m : ℕ} {net : Network} → Sized m net → (place : ℕ → ℕ) → length (entriesOf paper net place) ≡ E m
-unfolding entriesOf
-length-entries {m} (none h) place = sym (E-none m h)
-length-entries {m} (some {top = top} {bottom = bottom} two t b) place =
-    let a = length-entries t (λ i. place (paper .enc (up m) (i, false))) in
-    let d = length-entries b (λ i. place (paper .enc (up m) (i, true))) in
-    simp length-append (omega (arith, a, d, E-parts (place 0) m two))
 
 pub net-none : (o m bit : ℕ) (x : State) → m < 2 → x ≡ setNet paper (network m) (λ i. o + i) bit x
 unfolding setNet

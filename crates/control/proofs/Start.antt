@@ -21,11 +21,11 @@ use Rattle.steps.specs.Fold.{setNet}
 use Rattle.steps.proofs.Places.{Unlike}
 use Rattle.steps.proofs.Running.{run-is-fold}
 use Rattle.steps.proofs.Sweeps.{length-each, each-at}
+use Rattle.steps.proofs.Lengths.{length-entries}
 use Rattle.control_sweeps.specs.Tables.{Below}
 use Rattle.control_steps.specs.declared.Walk.{Walk}
 use Rattle.control_steps.specs.Walks.{state, Went}
 use Rattle.control.specs.Inner.{Room, Tidy, Lengthens, Sets}
-use Rattle.control.proofs.Entries.{length-entries}
 
 unlike-self : (n : ℕ) → Unlike n (λ i. i)
 unfolding Unlike
@@ -102,7 +102,7 @@ sets-whole order vs ts ms bs bits log bits′ log′ vs′ ts′ ms′ r e₁ e�
     let q : _≡_ {A = ℕ → ℕ} (λ i. 0 + i) (λ i. i) = fun-ext (λ i. zero-add i) in
     let s : state vs ts ms bs still ≡ start order = start-is order vs ts ms bs e₁ e₂ e₃ (e₄ ∙ cleared bits (W n) l) in
     record {
-      count = omega (arith, G .count, length-entries (sized n) (λ i. 0 + i));
+      count = omega (arith, G .count, length-entries paper (sized n) (λ i. 0 + i));
       bits-are =
           ap (λ (x : State). x .bits) (S ∙ ap (λ (p : ℕ → ℕ). setNet paper (network n) p 0 (state vs ts ms bs still)) q)
           ∙ ap (λ (x : State). setNet paper (network n) (λ i. i) 0 x .bits) s

@@ -15,13 +15,14 @@ use Rattle.steps.specs.State.{State, outputBit}
 use Rattle.steps.specs.Steps.{step5, step6}
 use Rattle.steps.specs.Sequence.{inputEntries, entriesOf}
 use Rattle.steps.specs.Fold.{inputSteps, setNet}
+use Rattle.steps.proofs.Lengths.{E-parts, length-entries}
 use Rattle.control_sweeps.specs.Tables.{Below}
 use Rattle.control_steps.specs.declared.Walk.{Walk}
 use Rattle.control_steps.specs.Walks.{state, within, Went}
 use Rattle.control.specs.Inner.{Room, Tidy, Lengthens}
 use Rattle.control.proofs.Bounds.{tidy-more, tidy5, tidy-input, tidy-net}
 use Rattle.control.proofs.Trails.{Halfway, halfway-enter, halfway-kept, halfway-top, halfway-bottom}
-use Rattle.control.proofs.Entries.{went-then, went-as, E-parts, W-parts, length-entries, entries-split, net-split}
+use Rattle.control.proofs.Entries.{went-then, went-as, W-parts, entries-split, net-split}
 
 -- a part was done: its entries, its n bits, and what it made of the state
 pub record Done (es : List Entry) (n : ℕ) (F : State → State) (w r : Walk) (vs ts ms bs l vs′ ts′ ms′ bs′ l′ : List ℕ) : Type 0 where
@@ -92,7 +93,7 @@ module _ (o m : ℕ) (w : Walk) (vs ts ms bs l : List ℕ) (two : 2 ≤ m) (R : 
         {vs₂ ts₂ ms₂ bs₂ l₂ : List ℕ}
         (D₂ : Halved o (up m) x y vs₁ ts₁ ms₁ bs₁ l₁ vs₂ ts₂ ms₂ bs₂ l₂) where
       count₂ : y .e ≡ x .e + E (up m)
-      count₂ = omega (arith, D₂ .went .count, length-entries (sized (up m)) (λ i. o + i))
+      count₂ = omega (arith, D₂ .went .count, length-entries paper (sized (up m)) (λ i. o + i))
 
       pub room-bottom : Room (o + up m) (m - up m) y vs₂ ts₂ ms₂ bs₂ l₂
       room-bottom =
@@ -121,7 +122,7 @@ module _ (o m : ℕ) (w : Walk) (vs ts ms bs l : List ℕ) (two : 2 ≤ m) (R : 
           {vs₃ ts₃ ms₃ bs₃ l₃ : List ℕ}
           (D₃ : Halved (o + up m) (m - up m) y z vs₂ ts₂ ms₂ bs₂ l₂ vs₃ ts₃ ms₃ bs₃ l₃) where
         count₃ : z .e ≡ y .e + E (m - up m)
-        count₃ = omega (arith, D₃ .went .count, length-entries (sized (m - up m)) (λ i. o + up m + i))
+        count₃ = omega (arith, D₃ .went .count, length-entries paper (sized (m - up m)) (λ i. o + up m + i))
 
         tidy₃ : Tidy 32768 (state vs₃ ts₃ ms₃ bs₃ z)
         tidy₃ =
@@ -151,9 +152,9 @@ module _ (o m : ℕ) (w : Walk) (vs ts ms bs l : List ℕ) (two : 2 ≤ m) (R : 
           whole-log =
               went-as (entries-split o m two) wparts
               (went-then (omega (arith, R .log-room, front-length, eparts)) (D .went)
-              (went-then (omega (arith, R .log-room, D .log-kept, D .went .count, front-length, eparts, length-entries (sized (up m)) (λ i. o + i))) (D₂ .went)
+              (went-then (omega (arith, R .log-room, D .log-kept, D .went .count, front-length, eparts, length-entries paper (sized (up m)) (λ i. o + i))) (D₂ .went)
               (went-then
-              (omega (arith, R .log-room, D .log-kept, D₂ .log-kept, D .went .count, count₂, front-length, eparts, length-entries (sized (m - up m)) (λ i. o + up m + i)))
+              (omega (arith, R .log-room, D .log-kept, D₂ .log-kept, D .went .count, count₂, front-length, eparts, length-entries paper (sized (m - up m)) (λ i. o + up m + i)))
               (D₃ .went) G)))
 
           pub whole-state : state vs₄ ts₄ ms₃ bs₄ r ≡ setNet paper (network m) (λ i. o + i) (w .b) (state vs ts ms bs w)

@@ -2,8 +2,8 @@
 -- Assumes nothing.
 use mathlib.Core.Path.{_≡_, refl, sym, ap, _∙_}
 use mathlib.Core.Bool.{true, false}
-use mathlib.Core.List.{List, [], _∷_, _++_}
-use Prim.Native.Nat.{ℕ, zero, suc, _+_, _*_, _≤_, _<_}
+use mathlib.Core.List.{[]}
+use Prim.Native.Nat.{ℕ, zero, suc, _+_, _-_, _*_, _≤_, _<_}
 use native.Mathlib.Omega.{arith}
 use native.Mathlib.Decide.{decLt}
 use lib.ListN.{length, length-append}
@@ -11,12 +11,12 @@ use borrow.Author.Tests.{lt-ltb, le-ltb}
 use Rattle.counts.specs.Counts.{up, E}
 use Rattle.counts.proofs.Rule.{E-none, E-two, E-more}
 use Rattle.network.specs.Wiring.{Wiring}
-use Rattle.network.specs.Network.{Network, down}
-use Rattle.network.specs.Log.{Entry, entry, entryWords, words}
+use Rattle.network.specs.Network.{Network}
+use Rattle.network.specs.Log.{entryWords, words}
 use Rattle.network.proofs.Shape.{Sized, none, some, sized, length-words}
 use Rattle.steps.specs.Sequence.{rounds, inputEntries, entriesOf, setEntries}
 
-length-rounds : (i o m : ℕ) → length (rounds i o m) ≡ 3 * i
+pub length-rounds : (i o m : ℕ) → length (rounds i o m) ≡ 3 * i
 unfolding rounds
 length-rounds zero o m = refl
 length-rounds (suc i) o m = simp length-append (omega (arith, length-rounds i o m))
@@ -29,34 +29,29 @@ length-input : (o m : ℕ) → 2 < m → length (inputEntries o m) ≡ 3 * up m 
 unfolding inputEntries
 length-input o m h = rw (lt-ltb 2 m h) (simp length-append (omega (arith, length-rounds (up m) o m)))
 
+-- a network's count from those of its parts
+pub E-parts : (o m : ℕ) → 2 ≤ m → length (inputEntries o m) + (1 + (E (up m) + (E (m - up m) + 1))) ≡ E m
+E-parts o m two = go (decLt 2 m)
+  where
+    pair : m ≡ 2 → 0 + (1 + (E (up m) + (E (m - up m) + 1))) ≡ E m
+    pair e = rw (e, E-none 1 (omega arith), E-two)
+
+    go : Dec (2 < m) → length (inputEntries o m) + (1 + (E (up m) + (E (m - up m) + 1))) ≡ E m
+    go (yes h) = omega (arith, length-input o m h, E-more m h)
+    go (no h) = rw (input-none o m (omega arith)) (pair (omega arith))
+
 module _ (w : Wiring) where
-  length-of : {m : ℕ} {net : Network} (place : ℕ → ℕ) → Sized m net → length (entriesOf w net place) ≡ E m
+  pub length-entries : {m : ℕ} {net : Network} → Sized m net → (place : ℕ → ℕ) → length (entriesOf w net place) ≡ E m
   unfolding entriesOf
-  length-of {m} place (none h) = sym (E-none m h)
-  length-of {m} place (some {top = top} {bottom = bottom} two t b) = go (decLt 2 m) (length-of _ t) (length-of _ b)
-    where
-      a : List Entry
-      a = entriesOf w top (λ i. place (w .enc (up m) (i, false)))
-
-      c : List Entry
-      c = entriesOf w bottom (λ i. place (w .enc (up m) (i, true)))
-
-      all : List Entry
-      all = inputEntries (place 0) m ++ (entry 5 (place 0) m ∷ (a ++ (c ++ (entry 6 (place 0) m ∷ []))))
-
-      whole : length all ≡ length (inputEntries (place 0) m) + (2 + (length a + length c))
-      whole = simp length-append (omega arith)
-
-      small : m ≡ 2 → length a ≡ E (up m) → length c ≡ E (down m) → 0 + (2 + (length a + length c)) ≡ E m
-      small e p q = rw (p, q, e, E-none 1 (omega arith), E-two)
-
-      go : Dec (2 < m) → length a ≡ E (up m) → length c ≡ E (down m) → length all ≡ E m
-      go (yes h) p q = whole ∙ rw (length-input (place 0) m h, p, q, E-more m h) (omega arith)
-      go (no h) p q = whole ∙ rw (input-none (place 0) m (omega arith)) (small (omega arith) p q)
+  length-entries {m} (none h) place = sym (E-none m h)
+  length-entries {m} (some {top = top} {bottom = bottom} two t b) place =
+      let a = length-entries t (λ i. place (w .enc (up m) (i, false))) in
+      let d = length-entries b (λ i. place (w .enc (up m) (i, true))) in
+      simp length-append (omega (arith, a, d, E-parts (place 0) m two))
 
   pub length-setEntries : (n : ℕ) → length (setEntries w n) ≡ E n
   unfolding setEntries
-  length-setEntries n = length-of (λ i. i) (sized n)
+  length-setEntries n = length-entries (sized n) (λ i. i)
 
   pub length-setWords : (n : ℕ) → length (words (setEntries w n)) ≡ entryWords * E n
   length-setWords n = length-words (setEntries w n) ∙ ap (λ e. entryWords * e) (length-setEntries n)

@@ -4,10 +4,12 @@ use mathlib.Core.Path.{_≡_, sym, _∙_}
 use mathlib.Core.List.{List}
 use Prim.Native.Nat.{ℕ, _-_}
 use native.Mathlib.Omega.{arith}
-use lib.ListN.{length}
+use lib.ListN.{length, getD}
 use borrow.Author.Needs.{needs}
+use Rattle.network.specs.Log.{entryAt}
 use Rattle.permutation.proofs.Tables.{length-tabulate, tabulate-at}
 use Rattle.cmd_lines.proofs.Lines.{Laying, lay-starts, lay-more, lay-ends}
+use Rattle.cmd_picture.specs.Picture.{mark}
 use Rattle.cmd_picture.specs.Inner.{markIn, columnsIn}
 use Rattle.cmd_picture.proofs.put_columns.Statement.{statement}
 use Rattle.cmd_picture.proofs.put_columns.Tie as tie
@@ -15,6 +17,11 @@ use Rattle.cmd_picture.proofs.put_columns.Tie as tie
 -- one column a switch
 long : (log bits : List ℕ) (place : ℕ) → length (columnsIn log bits place) ≡ length bits
 long log bits place = length-tabulate (markIn log bits place) (length bits)
+
+-- the mark of a switch from the two places that were read
+marked : (log bits : List ℕ) (place e lower upper : ℕ) → lower ≡ entryAt log e .first → upper ≡ entryAt log e .second
+    → mark lower upper (getD bits e 0) place ≡ markIn log bits place e
+marked log bits place e lower upper p q = rw (p, q)
 
 abbrev Inv-loop : tie.InvT-loop
 Inv-loop out₀ at place bits log e₀ out e = Laying (columnsIn log bits place) out₀ at out e
@@ -64,8 +71,8 @@ loop-again c =
     let place = s .args .place in
     lay-more _ _ _ _ _ (t .before .loop .inv) _ (omega (arith, t .loop-test .taken, long log bits place)) (s .pre .1)
     (c .mark-at .ensures
-    ∙ rw (c .before .before .before .first-of .ensures, c .before .before .second-of .ensures)
-    (sym (tabulate-at (markIn log bits place) (length bits) (t .before .loop .e) (t .loop-test .taken))))
+    ∙ marked log bits place (t .before .loop .e) _ _ (c .before .before .before .first-of .ensures) (c .before .before .second-of .ensures)
+    ∙ sym (tabulate-at (markIn log bits place) (length bits) (t .before .loop .e) (t .loop-test .taken)))
 
 add-result : tie.Need-add-result Inv-loop μ-loop
 add-result c =

@@ -6,10 +6,11 @@ use mathlib.Core.Path.{refl, ap, _∙_}
 use Rattle.network.specs.Wiring.{paper}
 use Rattle.steps.specs.Steps.{step5}
 use Rattle.steps.specs.State.{State}
+use Rattle.steps.proofs.Lengths.{E-parts}
 use Rattle.control_steps.specs.Walks.{state, within}
 use Rattle.control.specs.Inner.{Tidy}
 use Rattle.control.proofs.Bounds.{tidy-input}
-use Rattle.control.proofs.Entries.{went-then, went-as, E-parts, W-parts}
+use Rattle.control.proofs.Entries.{went-then, went-as, W-parts}
 use Rattle.control.proofs.Trails.{within-input}
 use Rattle.control.proofs.enter.Statement.{statement}
 use Rattle.control.proofs.enter.Tie as tie

@@ -8,10 +8,11 @@ use mathlib.Core.List.{[]}
 use Rattle.counts.specs.Counts.{up}
 use Rattle.network.specs.Wiring.{paper}
 use Rattle.steps.specs.Steps.{step4}
+use Rattle.steps.proofs.Lengths.{length-rounds}
 use Rattle.control_steps.specs.Walks.{state, within}
 use Rattle.control.specs.Inner.{Tidy}
 use Rattle.control.proofs.Bounds.{tidy-trails, tidy-rounds}
-use Rattle.control.proofs.Entries.{went-none, went-then, went-as, length-rounds, input-none, input-some, steps-none, steps-some, W-parts}
+use Rattle.control.proofs.Entries.{went-none, went-then, went-as, input-none, input-some, steps-none, steps-some, W-parts}
 use Rattle.counts.proofs.Rule.{E-more}
 use Rattle.control.proofs.input_steps.Statement.{statement}
 use Rattle.control.proofs.input_steps.Tie as tie

@@ -9,9 +9,10 @@ use Rattle.counts.specs.Counts.{up}
 use Rattle.network.specs.Wiring.{paper}
 use Rattle.steps.specs.Sequence.{rounds}
 use Rattle.steps.specs.Fold.{roundsOf}
+use Rattle.steps.proofs.Lengths.{length-rounds}
 use Rattle.control_steps.specs.Walks.{state, within, Went}
 use Rattle.control.proofs.Bounds.{tidy-rounds}
-use Rattle.control.proofs.Entries.{went-none, went-then, went-as, rounds-more, length-rounds, round-more}
+use Rattle.control.proofs.Entries.{went-none, went-then, went-as, rounds-more, round-more}
 use Rattle.control.proofs.rounds.Statement.{statement}
 use Rattle.control.proofs.rounds.Tie as tie
 
