@@ -11,7 +11,7 @@ use lib.ListN.{length, take}
 use Rattle.answers.specs.Answers.{accepted}
 use Rattle.answers.specs.Buffers.{overlay}
 use Rattle.answers.specs.Outcomes.{Outcome, outcome}
-use Rattle.answers.proofs.Questions.{passed}
+use Rattle.answers.proofs.Questions.{passed, BothPass, both-pass}
 use Rattle.answers.proofs.Buffers.{overlay-read}
 use Rattle.counts.specs.Counts.{W}
 use Rattle.network.specs.Wiring.{paper}
@@ -24,7 +24,6 @@ use Rattle.shuffle.proofs.Steps.{shuffled-permutation}
 use Rattle.canonical.proofs.Only.{canonical-length}
 use Rattle.steps_canonical.proofs.Whole.{setting-canonical}
 use Rattle.sheets.specs.Sheet.{sheet}
-use Rattle.sheets.proofs.Asking.{BothPass, both-pass}
 use Rattle.sheets.proofs.Rows.{numbers-length}
 use Rattle.sheets.proofs.Writing.{bytes-most, sheet-length}
 use Rattle.cmd_order.specs.Orders.{countIn, entriesAt, orderIn, formQuestions, entryQuestions, orderQuestions, settingFor}

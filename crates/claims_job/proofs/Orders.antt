@@ -9,14 +9,13 @@ use borrow.Author.Tests.{le-leb, eq-eqb}
 use lib.Dec.{leb, eqb}
 use lib.ListN.{length, getD, drop, List·getD-eq-default}
 use Rattle.answers.specs.Questions.{Question, ask, allYes, firstNo}
-use Rattle.answers.proofs.Questions.{asked-yes, asked-both}
+use Rattle.answers.proofs.Questions.{asked-yes, asked-both, BothPass, both-pass}
 use Rattle.permutation.specs.Permutations.{IsPermutation, firstBadEntry}
 use Rattle.permutation.proofs.Permutations.{permutation-passes}
 use Rattle.numbers.specs.Numbers.{numberQuestions}
 use Rattle.sheets.specs.Reading.{numbersQuestions, numbersAt, placePast}
 use Rattle.sheets.specs.Inner.{Fourteens}
 use Rattle.sheets.proofs.Rows.{Back, row-back}
-use Rattle.sheets.proofs.Asking.{BothPass, both-pass}
 use Rattle.cmd_order.specs.Orders.{countIn, entriesAt, orderIn, endOf, formQuestions, entryQuestions, orderQuestions}
 use Rattle.cmd_draw.specs.Draw.{orderBytes}
 use Rattle.claims_job.specs.Job.{Holds}

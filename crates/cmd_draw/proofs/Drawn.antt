@@ -11,7 +11,7 @@ use lib.ListN.{length, getD, take, List·getD-eq-default}
 use Rattle.answers.specs.declared.Answer.{Answer}
 use Rattle.answers.specs.Answers.{refusal, accepted}
 use Rattle.answers.specs.Questions.{allYes, noAt, firstNo}
-use Rattle.answers.specs.Buffers.{overlay}
+use Rattle.answers.specs.Buffers.{overlay, Put}
 use Rattle.answers.specs.Outcomes.{Outcome, outcome}
 use Rattle.answers.proofs.Buffers.{overlay-read, overlay-front}
 use Rattle.answers.proofs.Outcomes.{ends-refused, ends-accepted}
@@ -19,8 +19,7 @@ use Rattle.permutation.specs.Permutations.{IsPermutation, tabulate}
 use Rattle.permutation.proofs.Tables.{length-tabulate}
 use Rattle.shuffle.specs.Shuffled.{shuffled, shuffleCall}
 use Rattle.shuffle.proofs.Steps.{shuffled-permutation}
-use Rattle.sheets.specs.Inner.{Put}
-use Rattle.sheets.proofs.Writing.{put-length}
+use Rattle.answers.proofs.Putting.{put-length}
 use Rattle.cmd_draw.specs.Draw.{wordAt, wordsIn, bytesFor, orderBytes, drawQuestions, drawCall}
 
 pub wanted : (n : ℕ) → n ≤ 1024 → 4 * n ≡ bytesFor n

@@ -11,8 +11,9 @@ use Rattle.answers.proofs.Buffers.{overlay-length}
 use Rattle.numbers.specs.Numbers.{numberBytes}
 use Rattle.numbers.proofs.Numbers.{bytes-few}
 use Rattle.sheets.specs.Sheet.{numbersBytes}
-use Rattle.sheets.specs.Inner.{Put}
-use Rattle.sheets.proofs.Writing.{put-none, put-then, bytes-more}
+use Rattle.answers.specs.Buffers.{Put}
+use Rattle.answers.proofs.Putting.{put-none, put-then}
+use Rattle.sheets.proofs.Writing.{bytes-more}
 use Rattle.cmd_draw.specs.Draw.{orderBytes}
 
 -- what the loop of `put_entries` keeps

@@ -2,10 +2,9 @@
 ghost use mathlib.Core.Path.{_≡_};
 ghost use Prim.Native.Nat.{ℕ, _+_, _*_, _≤_, _<_};
 ghost use lib.ListN.{length, getD};
-ghost use Rattle.answers.specs.Buffers.{overlay};
+ghost use Rattle.answers.specs.Buffers.{overlay, Put};
 ghost use Rattle.answers.specs.Outcomes.{outcome};
 ghost use Rattle.permutation.specs.Permutations.{tabulate};
-ghost use Rattle.sheets.specs.Inner.{Put};
 ghost use Rattle.sheets.specs.Sheet.{numbersBytes};
 ghost use Rattle.cmd_draw.specs.Draw.{wordAt, bytesFor, orderBytes, drawCall};
 use answers::Answer;

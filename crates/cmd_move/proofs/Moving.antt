@@ -11,7 +11,7 @@ use Rattle.answers.specs.Answers.{refusal}
 use Rattle.answers.specs.Questions.{Verdict, allYes, noAt, firstNo}
 use Rattle.answers.specs.Buffers.{overlay}
 use Rattle.answers.specs.Outcomes.{outcome, Logged, logged, settled}
-use Rattle.answers.proofs.Questions.{asked-both, asked-first}
+use Rattle.answers.proofs.Questions.{asked-both, asked-first, both-pass}
 use Rattle.answers.proofs.Buffers.{overlay-read}
 use Rattle.answers.proofs.Outcomes.{ends-refused}
 use Rattle.counts.specs.Counts.{W}
@@ -20,7 +20,7 @@ use Rattle.network.specs.Blocks.{moved, movedBack}
 use Rattle.sheets.specs.Sheet.{numbersFor}
 use Rattle.sheets.specs.Reading.{numbersAt}
 use Rattle.sheets.specs.Calls.{placesIn, fourteensAt, headQuestions, bodyQuestions, bitsFrom, readQuestions, readSheet}
-use Rattle.sheets.proofs.Asking.{both-pass, head-sized}
+use Rattle.sheets.proofs.Asking.{head-sized}
 use Rattle.sheets.proofs.Unpacking.{bits-length}
 use Rattle.sheets.proofs.Rows.{numbers-length}
 use Rattle.sheets.proofs.Round.{read-only}

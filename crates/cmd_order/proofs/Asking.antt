@@ -11,7 +11,7 @@ use Rattle.answers.specs.declared.Answer.{Answer}
 use Rattle.answers.specs.Questions.{Question, ask, allYes, noAt, firstNo}
 use Rattle.answers.specs.Outcomes.{outcome, settled}
 use Rattle.answers.proofs.Outcomes.{ends-refused}
-use Rattle.answers.proofs.Questions.{asked-yes, asked-no, asked-both, asked-first, passed}
+use Rattle.answers.proofs.Questions.{asked-yes, asked-no, asked-both, asked-first, passed, both-pass, never}
 use Rattle.numbers.specs.Numbers.{numberQuestions, numberAt}
 use Rattle.numbers.specs.Reading.{meaning, answerOf}
 use Rattle.numbers.specs.declared.ReadNumber.{ReadNumber}
@@ -20,7 +20,6 @@ use Rattle.numbers.proofs.Numbers.{Reads, refused, Got, got-number, got-refused
 use Rattle.sheets.specs.Reading.{numbersQuestions, numbersAt, placePast}
 use Rattle.sheets.specs.Inner.{Row}
 use Rattle.sheets.proofs.Rows.{Reading, reading-starts, reading-more, reading-stops, reading-ends, numbers-length}
-use Rattle.sheets.proofs.Asking.{both-pass}
 use Rattle.cmd_order.specs.Orders.{countIn, entriesAt, orderIn, endOf, formQuestions, entryQuestions, orderQuestions, settingFor, orderSetting}
 
 -- ---- the entries in a row
@@ -33,9 +32,6 @@ Entries input start n order r =
 -- what its loop keeps: the place of the last number, which `Reading` speaks of, is not kept by the code
 abbrev pub Reads-on : List ℕ → ℕ → ℕ → List ℕ → List ℕ → ℕ → ℕ → Type 0
 Reads-on input start n before order at j = Reading input start n before order (placePast (j - 1) input start) at j
-
-never : {q p : ℕ} → noAt q p ≡ allYes → ⊥
-never {q} {p} e = let z : noAt q p ≡ allYes = e in let y : _≡_ {A = ℕ} 0 1 = cc in omega arith
 
 row-refused : {qs : List Question} {a b k q p : ℕ} {row values : List ℕ} {r : ReadNumber} → firstNo qs ≡ noAt q p → r ≡ Refused q p → Row qs a b k row values r
 row-refused e t = record { answer = rw (e, t); numbers = λ y. absurd (never (sym e ∙ y)) }

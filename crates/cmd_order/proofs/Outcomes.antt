@@ -9,15 +9,15 @@ use lib.Seq.{take-at}
 use Rattle.answers.specs.declared.Answer.{Answer}
 use Rattle.answers.specs.Questions.{allYes, firstNo}
 use Rattle.answers.specs.Outcomes.{answerOf, bufferOf, Outcome, outcome}
-use Rattle.answers.proofs.Outcomes.{Numbered, accepted-when}
+use Rattle.answers.proofs.Outcomes.{Numbered, accepted-when, numbered-both}
 use Rattle.answers.proofs.Buffers.{overlay-front}
 use Rattle.counts.specs.Counts.{W}
 use Rattle.numbers.specs.Numbers.{numberQuestions}
 use Rattle.numbers.proofs.Numbers.{numbered}
 use Rattle.sheets.specs.Reading.{numbersQuestions}
 use Rattle.sheets.proofs.Rows.{numbers-length}
-use Rattle.sheets.proofs.Asking.{both-pass}
-use Rattle.sheets.proofs.Round.{numbered-both, numbered-row}
+use Rattle.answers.proofs.Questions.{both-pass}
+use Rattle.sheets.proofs.Round.{numbered-row}
 use Rattle.cmd_order.specs.Orders.{countIn, entriesAt, orderIn, formQuestions, entryQuestions, orderQuestions, settingFor, orderSetting}
 use Rattle.cmd_order.proofs.Asking.{places-small}
 use Rattle.cmd_order.proofs.Setting.{setting-length}

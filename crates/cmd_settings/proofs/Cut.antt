@@ -12,10 +12,9 @@ use lib.ListN.{length, take}
 use lib.Seq.{length-take-le, take-all, getD-take}
 use borrow.Author.Tests.{lt-ltb, le-leb, lt-leb, leb-true}
 use Rattle.answers.specs.Questions.{Question, ask, Verdict, allYes, noAt, firstNo}
-use Rattle.answers.proofs.Questions.{asked-yes, asked-no, asked-both, asked-first, passed}
+use Rattle.answers.proofs.Questions.{asked-yes, asked-no, asked-both, asked-first, passed, both-pass}
 use Rattle.numbers.specs.Numbers.{byteAt, oneByte, ends, numberQuestions, NumberAnswer, valueAt, placeAfter, numberAt}
 use Rattle.sheets.specs.Reading.{numbersQuestions, placePast}
-use Rattle.sheets.proofs.Asking.{both-pass}
 use Rattle.cmd_order.specs.Orders.{countIn, entriesAt, orderIn, endOf, formQuestions, entryQuestions, orderQuestions}
 use Rattle.cmd_order.proofs.Asking.{places-small}
 use Rattle.cmd_settings.specs.Settings.{settingsText}

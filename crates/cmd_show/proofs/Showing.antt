@@ -11,7 +11,7 @@ use lib.Seq.{length-take-le}
 use Rattle.answers.specs.declared.Answer.{Answer}
 use Rattle.answers.specs.Answers.{refusal, accepted}
 use Rattle.answers.specs.Questions.{allYes, noAt, firstNo}
-use Rattle.answers.specs.Buffers.{overlay}
+use Rattle.answers.specs.Buffers.{overlay, Put}
 use Rattle.answers.specs.Outcomes.{Outcome, outcome}
 use Rattle.answers.proofs.Buffers.{overlay-read, overlay-length}
 use Rattle.answers.proofs.Outcomes.{ends-refused, ends-accepted}
@@ -24,9 +24,8 @@ use Rattle.network.proofs.Order.{length-order}
 use Rattle.sheets.specs.Sheet.{numbersFor}
 use Rattle.sheets.specs.Reading.{numbersAt, bitsIn}
 use Rattle.sheets.specs.Calls.{placesIn, fourteensAt, bitsFrom, readQuestions, readSheet}
-use Rattle.sheets.specs.Inner.{Put}
 use Rattle.sheets.proofs.Unpacking.{bits-length, bit-at, bits-take}
-use Rattle.sheets.proofs.Writing.{put-then, put-length}
+use Rattle.answers.proofs.Putting.{put-then, put-length}
 use Rattle.cmd_lines.specs.Text.{text, decimal, bitsText, line}
 use Rattle.cmd_lines.proofs.Decimal.{digits-few}
 use Rattle.cmd_lines.proofs.Lines.{put-kept, bits-within}

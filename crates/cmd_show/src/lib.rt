@@ -8,7 +8,7 @@ ghost use Rattle.bits.specs.Bits.{Bits};
 ghost use Rattle.counts.specs.Counts.{W};
 ghost use Rattle.network.specs.Wiring.{paper};
 ghost use Rattle.network.specs.Blocks.{orderOf};
-ghost use Rattle.sheets.specs.Inner.{Put};
+ghost use Rattle.answers.specs.Buffers.{Put};
 ghost use Rattle.cmd_lines.specs.Text.{text, decimal, line};
 ghost use Rattle.cmd_show.specs.Show.{spaced, orderText, pictured, settingText, showCall};
 use answers::Answer;

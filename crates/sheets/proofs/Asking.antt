@@ -9,7 +9,7 @@ use lib.Dec.{leb, eqb}
 use lib.ListN.{length, take, drop}
 use borrow.Author.Tests.{le-leb, lt-leb, eq-eqb, ne-eqb, leb-true}
 use Rattle.answers.specs.Questions.{Question, ask, Verdict, allYes, noAt, firstNo}
-use Rattle.answers.proofs.Questions.{asked-yes, asked-no, asked-both, asked-first, passed}
+use Rattle.answers.proofs.Questions.{asked-yes, asked-no, asked-both, asked-first, passed, never, both-pass}
 use Rattle.counts.specs.Counts.{W}
 use Rattle.numbers.specs.Numbers.{numberQuestions, numberAt}
 use Rattle.numbers.specs.Reading.{meaning, readOf}
@@ -20,21 +20,6 @@ use Rattle.sheets.specs.Sheet.{numbersFor}
 use Rattle.sheets.specs.Reading.{numbersQuestions, numbersAt, placePast, bitsIn, allZero}
 use Rattle.sheets.specs.Calls.{formIn, placesAt, placesIn, fourteensAt, headQuestions, bodyQuestions, bitsFrom}
 use Rattle.sheets.specs.Inner.{Row}
-
--- both of two sequences pass where the two together do
-pub record BothPass (qs rs : List Question) : Type 0 where
-  pub first : firstNo qs ≡ allYes
-  pub second : firstNo rs ≡ allYes
-
-never : {q p : ℕ} → noAt q p ≡ allYes → ⊥
-never {q} {p} e = let z : noAt q p ≡ allYes = e in let y : _≡_ {A = ℕ} 0 1 = cc in omega arith
-
-pub both-pass : (qs rs : List Question) → firstNo (qs ++ rs) ≡ allYes → BothPass qs rs
-both-pass qs rs e = go (firstNo qs) refl
-  where
-    go : (w : Verdict) → firstNo qs ≡ w → BothPass qs rs
-    go allYes t = record { first = t; second = sym (asked-both qs rs t) ∙ e }
-    go (noAt q p) t = absurd (never (sym (asked-first qs rs t) ∙ e))
 
 -- ---- the form, n, and room for the bits
 

@@ -15,7 +15,7 @@ use Rattle.answers.specs.Buffers.{overlay}
 use Rattle.answers.specs.Outcomes.{Outcome, outcome}
 use Rattle.answers.proofs.Questions.{passed}
 use Rattle.answers.proofs.Buffers.{overlay-read}
-use Rattle.answers.proofs.Outcomes.{Numbered, accepted-when}
+use Rattle.answers.proofs.Outcomes.{Numbered, accepted-when, numbered-both}
 use Rattle.bits.specs.Bits.{isBit, Bits}
 use Rattle.bits.proofs.Bytes.{bits-all, all-bits}
 use Rattle.counts.specs.Counts.{W}
@@ -136,10 +136,6 @@ write-only n bits out e =
     }
 
 -- ---- when read sheet is accepted
-
-pub numbered-both : (qs rs : List Question) → Numbered qs → Numbered rs → Numbered (qs ++ rs)
-numbered-both [] rs h g = g
-numbered-both (q ∷ qs) rs h g = (h .0, numbered-both qs rs (h .1) g)
 
 pub numbered-row : (k : ℕ) (input : List ℕ) (at : ℕ) → Numbered (numbersQuestions k input at)
 unfolding numbersQuestions

@@ -5,15 +5,15 @@ use mathlib.Core.List.{List, [], _∷_, _++_, append-assoc, append-nil}
 use Prim.Native.Nat.{ℕ, zero, suc, _+_, _-_, _*_, _/_, _%_, _≤_, _<_}
 use native.Mathlib.Numerals.{add-one}
 use native.Mathlib.Omega.{arith}
-use lib.ListN.{length, getD, take, drop, set, length-append, length-take, length-drop, length-set}
-use lib.Seq.{drop-cons, getD-take, getD-drop, drop-drop, drop-length, take-suc, length-take-le}
-use Rattle.answers.specs.Buffers.{overlay}
-use Rattle.answers.proofs.Buffers.{overlay-none, overlay-one, overlay-more, overlay-then, overlay-length, overlay-read}
+use lib.ListN.{length, getD, take, drop, set, length-append, length-take, length-drop}
+use lib.Seq.{drop-cons, getD-take, getD-drop, drop-drop, drop-length}
+use Rattle.answers.specs.Buffers.{Put}
+use Rattle.answers.proofs.Buffers.{overlay-one, overlay-more, overlay-length}
 use Rattle.bits.specs.Bits.{Bits}
 use Rattle.numbers.specs.Numbers.{numberBytes}
 use Rattle.numbers.proofs.Numbers.{bytes-one, bytes-two, bytes-few}
 use Rattle.sheets.specs.Sheet.{bitsNumber, numbersFor, fourteens, numbersBytes, sheet}
-use Rattle.sheets.specs.Inner.{Put}
+use Rattle.answers.proofs.Putting.{put-none, put-then}
 use Rattle.sheets.proofs.Unpacking.{bits-take, bits-drop, number-fits, fourteens-length}
 
 -- ---- one number
@@ -33,23 +33,6 @@ put-two buf at v h l =
       place = refl;
       buffer = rw (← overlay-one buf at a (omega arith)) (overlay-more buf at (a ∷ []) (v / 128) l);
     })
-
--- ---- one part behind another
-
-pub put-none : (buf : List ℕ) (at : ℕ) → Put buf at [] at buf
-put-none buf at = let z : at ≡ at + 0 = omega arith in record { place = z; buffer = sym (overlay-none buf at) }
-
-pub put-then :
-    {a : List ℕ} {at : ℕ} {xs : List ℕ} {r : ℕ} {b : List ℕ} {ys : List ℕ} {q : ℕ} {c : List ℕ}
-    → at + length xs ≤ length a
-    → Put a at xs r b
-    → Put b r ys q c
-    → Put a at (xs ++ ys) q c
-put-then {a} {at} {xs} {r} {b} {ys} h P Q =
-    record {
-      place = omega (arith, P .place, Q .place, length-append xs ys);
-      buffer = Q .buffer ∙ rw (P .buffer, P .place) (overlay-then a at xs ys h);
-    }
 
 -- ---- fourteen bits
 
@@ -156,42 +139,6 @@ pub putting-ends :
     → Put before start (numbersBytes (fourteens k bits)) at buf
 putting-ends bits k before start buf at j h R = let e : j ≡ k = omega (arith, R .within) in rw e at (R .put)
 
--- ---- copying
-
--- what the loops of `copy_front` and `write_bits` keep: the first i of the items are over the front
-pub record Over (items before out : List ℕ) (n i : ℕ) : Type 0 where
-  pub within : i ≤ n
-  pub same : length out ≡ length before
-  pub buffer : out ≡ overlay before 0 (take i items)
-
-pub over-starts : (items before : List ℕ) (n : ℕ) → Over items before before n 0
-over-starts items before n = record { within = omega arith; same = refl; buffer = sym (overlay-none before 0) }
-
-pub over-more :
-    (items before out : List ℕ) (n i x : ℕ)
-    → i < n
-    → n ≤ length items
-    → n ≤ length before
-    → x ≡ getD items i 0
-    → Over items before out n i
-    → Over items before (set out i x) n (i + 1)
-over-more items before out n i x h g l e R =
-    let t : length (take i items) ≡ i = length-take-le i items (omega arith) in
-    let z : 0 + length (take i items) ≡ i = omega arith in
-    let more : take i items ++ (x ∷ []) ≡ take (i + 1) items = rw (e, add-one) (sym (take-suc items i 0 (omega arith))) in
-    let one : set (overlay before 0 (take i items)) i x ≡ overlay before 0 (take i items ++ (x ∷ [])) =
-    ap (λ m. set (overlay before 0 (take i items)) m x) (sym z) ∙ overlay-more before 0 (take i items) x (omega arith)
-    in
-    record {
-      within = omega arith;
-      same = length-set out i x ∙ R .same;
-      buffer = rw (R .buffer) (one ∙ ap (overlay before 0) more);
-    }
-
-pub over-ends :
-    (items before out : List ℕ) (n i : ℕ) → n ≤ i → Over items before out n i → out ≡ overlay before 0 (take n items)
-over-ends items before out n i h R = let e : i ≡ n = omega (arith, R .within) in rw e at (R .buffer)
-
 -- ---- the sheet
 
 pub one-byte : length (numberBytes 1) ≡ 1
@@ -228,13 +175,3 @@ sheet-length n bits =
       bytes-most vs,
       fourteens-length (numbersFor (length bits)) bits,
     )
-
--- what was put at the front is there
-pub put-front : {a bytes : List ℕ} {r : ℕ} {b : List ℕ} → Put a 0 bytes r b → take r b ≡ bytes
-put-front {a} {bytes} P = let z : 0 + length bytes ≡ length bytes = omega arith in rw (P .buffer, P .place, z) (overlay-read a bytes)
-
-pub put-within : {a bytes : List ℕ} {r : ℕ} {b : List ℕ} → Put a 0 bytes r b → r ≤ length b
-put-within {bytes = bytes} {r = r} {b = b} P = omega (arith, P .place, ap length (put-front P), length-take r b)
-
-pub put-length : {a bytes : List ℕ} {r : ℕ} {b : List ℕ} → Put a 0 bytes r b → r ≡ length bytes
-put-length P = omega (arith, P .place)

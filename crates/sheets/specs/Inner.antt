@@ -2,17 +2,11 @@
 -- Assumes nothing: these are definitions.
 use mathlib.Core.Path.{_≡_}
 use mathlib.Core.List.{List}
-use Prim.Native.Nat.{ℕ, _+_, _<_}
-use lib.ListN.{length, getD, take}
+use Prim.Native.Nat.{ℕ, _<_}
+use lib.ListN.{getD, take}
 use Rattle.answers.specs.Questions.{Question, allYes, firstNo}
-use Rattle.answers.specs.Buffers.{overlay}
 use Rattle.numbers.specs.Reading.{readOf}
 use Rattle.numbers.specs.declared.ReadNumber.{ReadNumber}
-
--- bytes were put into a buffer from `at` on, up to the place r
-pub record Put (before : List ℕ) (at : ℕ) (bytes : List ℕ) (r : ℕ) (after : List ℕ) : Type 0 where
-  pub place : r ≡ at + length bytes
-  pub buffer : after ≡ overlay before at bytes
 
 -- the questions of a reading: its case, the numbers a and b where all get a yes; and then the k numbers `row` in `values`
 pub record Row (qs : List Question) (a b k : ℕ) (row values : List ℕ) (r : ReadNumber) : Type 0 where

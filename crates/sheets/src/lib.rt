@@ -5,22 +5,15 @@ ghost use mathlib.Core.Path.{_≡_};
 ghost use Prim.Native.Nat.{_≤_, _<_, _+_, _-_, _*_, min};
 ghost use lib.ListN.{length, take, drop};
 ghost use Rattle.answers.specs.Questions.{firstNo};
-ghost use Rattle.answers.specs.Buffers.{overlay};
+ghost use Rattle.answers.specs.Buffers.{overlay, Put};
 ghost use Rattle.answers.specs.Outcomes.{outcome};
 ghost use Rattle.bits.specs.Bits.{Bits};
 ghost use Rattle.numbers.specs.Numbers.{numberBytes};
 ghost use Rattle.numbers.specs.Reading.{readOf};
 ghost use Rattle.sheets.specs.Sheet.{bitsNumber, numbersFor, fourteens, numbersBytes, sheet};
 ghost use Rattle.sheets.specs.Reading.{numbersQuestions, numbersAt, placePast, bitsIn, allZero};
-ghost use Rattle.sheets.specs.Calls.{
-  writeSheet,
-  readSheet,
-  headQuestions,
-  bodyQuestions,
-  placesIn,
-  fourteensAt,
-};
-ghost use Rattle.sheets.specs.Inner.{Put, Row, Fourteens};
+ghost use Rattle.sheets.specs.Calls.{writeSheet, readSheet, headQuestions, bodyQuestions, placesIn, fourteensAt};
+ghost use Rattle.sheets.specs.Inner.{Row, Fourteens};
 use answers::Answer;
 use numbers::ReadNumber;
 

@@ -4,7 +4,7 @@ use borrow.Author.Needs.{needs}
 use native.Mathlib.Omega.{arith}
 use mathlib.Core.Path.{refl}
 use Prim.Native.Nat.{_-_}
-use Rattle.sheets.proofs.Writing.{Over, over-starts, over-more, over-ends}
+use Rattle.answers.proofs.Putting.{Over, over-starts, over-more, over-ends}
 use Rattle.sheets.proofs.copy_front.Statement.{statement}
 use Rattle.sheets.proofs.copy_front.Tie as tie
 

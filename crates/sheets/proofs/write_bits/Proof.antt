@@ -6,7 +6,7 @@ use mathlib.Core.Path.{sym}
 use Prim.Native.Nat.{_-_}
 use Rattle.sheets.specs.Reading.{bitsIn}
 use Rattle.sheets.proofs.Unpacking.{bits-length, bit-at}
-use Rattle.sheets.proofs.Writing.{Over, over-starts, over-more, over-ends}
+use Rattle.answers.proofs.Putting.{Over, over-starts, over-more, over-ends}
 use Rattle.sheets.proofs.write_bits.Statement.{statement}
 use Rattle.sheets.proofs.write_bits.Tie as tie
 

@@ -1,6 +1,6 @@
 -- `codec::write_sheet` meets its contract.
 -- Assumes nothing.
-use Rattle.sheets.proofs.Writing.{put-within, put-front, put-length}
+use Rattle.answers.proofs.Putting.{put-within, put-front, put-length}
 use Rattle.sheets.proofs.Calls.{too-large, uneven, no-bit, too-short, write-passes, write-refused, write-accepted}
 use native.Mathlib.Omega.{arith}
 use mathlib.Core.Path.{sym, ap, _∙_}
