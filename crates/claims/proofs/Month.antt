@@ -15,8 +15,9 @@ use Rattle.steps.specs.Steps.{step1, step2, step3, step4, step5, step6}
 use Rattle.steps.specs.Sequence.{rounds, inputEntries, entriesOf, setEntries}
 use Rattle.steps.specs.Run.{subnetworks, runEntry, runEntries, runSet}
 use Rattle.numbers.specs.Numbers.{numberBytes, numberQuestions, numberAt}
-use Rattle.sheets.specs.Sheet.{bitsNumber, fourteens, numbersBytes, sheet}
-use Rattle.sheets.specs.Reading.{numbersQuestions, numbersAt, placePast, lowBits, bitsIn, allZero}
+use Rattle.rows.specs.Rows.{numbersBytes, numbersQuestions, numbersAt, placePast}
+use Rattle.sheets.specs.Sheet.{bitsNumber, fourteens, sheet}
+use Rattle.sheets.specs.Reading.{lowBits, bitsIn, allZero}
 use Rattle.sheets.specs.Calls.{writeQuestions, writeSheet, headQuestions, bitsFrom, bodyQuestions, readQuestions, readSheet}
 use Rattle.shuffle.specs.Shuffled.{stepped, shuffleCall}
 use Rattle.apply.specs.Calls.{applyQuestions, applyCall, inverseCall}

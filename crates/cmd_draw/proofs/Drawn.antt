@@ -13,7 +13,7 @@ use Rattle.answers.specs.Answers.{refusal, accepted}
 use Rattle.answers.specs.Questions.{allYes, noAt, firstNo}
 use Rattle.answers.specs.Buffers.{overlay, Put}
 use Rattle.answers.specs.Outcomes.{Outcome, outcome}
-use Rattle.answers.proofs.Buffers.{overlay-read, overlay-front}
+use Rattle.answers.proofs.Buffers.{overlay-taken}
 use Rattle.answers.proofs.Outcomes.{ends-refused, ends-accepted}
 use Rattle.permutation.specs.Permutations.{IsPermutation, tabulate}
 use Rattle.permutation.proofs.Tables.{length-tabulate}
@@ -58,10 +58,7 @@ module _ (n : ℕ) (bytes out : List ℕ) where
 -- the words that were gathered, and the order that they make
 module _ (n : ℕ) (bytes : List ℕ) (few : n ≤ 1024) (count : length bytes / 4 ≡ n) where
   pub gathered : (before : List ℕ) {words : List ℕ} → words ≡ overlay before 0 (tabulate (wordAt bytes) n) → take n words ≡ wordsIn bytes
-  gathered before e =
-      let w = tabulate (wordAt bytes) n in
-      let long : n ≡ length w = sym (length-tabulate (wordAt bytes) n) in
-      rw e (ap (λ m. take m (overlay before 0 w)) long ∙ overlay-read before w ∙ ap (tabulate (wordAt bytes)) (sym count))
+  gathered before e = overlay-taken before e (length-tabulate (wordAt bytes) n) ∙ ap (tabulate (wordAt bytes)) (sym count)
 
   long : {words : List ℕ} → words ≡ wordsIn bytes → length words ≡ n
   long g = ap length g ∙ length-tabulate (wordAt bytes) (length bytes / 4) ∙ count
@@ -74,8 +71,7 @@ module _ (n : ℕ) (bytes : List ℕ) (few : n ≤ 1024) (count : length bytes /
         let there : order ≡ overlay before 0 (shuffled words) =
         ap (λ (o : Outcome). o .buffer) s ∙ rw (le-leb n 1024 few, eq-eqb (length words) n (long g), le-leb n (length before) room)
         in
-        let m : n ≡ length (shuffled words) = sym (P .whole ∙ long g) in
-        rw there (ap (λ k. take k (overlay before 0 (shuffled words))) m ∙ overlay-read before (shuffled words) ∙ ap shuffled g)
+        overlay-taken before there (P .whole ∙ long g) ∙ ap shuffled g
 
     pub entries-few : (i : ℕ) → getD (take n order) i 0 < 16384
     entries-few i = rw drawn (go (decLt i n))

@@ -18,13 +18,14 @@ use Rattle.counts.specs.Counts.{W}
 use Rattle.network.specs.Wiring.{paper}
 use Rattle.network.specs.Blocks.{moved, movedBack}
 use Rattle.sheets.specs.Sheet.{numbersFor}
-use Rattle.sheets.specs.Reading.{numbersAt}
+use Rattle.rows.specs.Rows.{numbersAt}
 use Rattle.sheets.specs.Calls.{placesIn, fourteensAt, headQuestions, bodyQuestions, bitsFrom, readQuestions, readSheet}
 use Rattle.sheets.proofs.Asking.{head-sized}
 use Rattle.sheets.proofs.Unpacking.{bits-length}
-use Rattle.sheets.proofs.Rows.{numbers-length}
+use Rattle.rows.proofs.Rows.{numbers-length}
 use Rattle.sheets.proofs.Round.{read-only}
 use Rattle.apply.specs.Calls.{applyQuestions, applyCall, inverseCall}
+use Rattle.numbers.specs.Numbers.{sevens}
 use Rattle.cmd_move.specs.Calls.{settingIn, moveQuestions, moveCall, mixCall, unmixCall}
 
 -- the setting has a bit for each switch
@@ -32,8 +33,8 @@ pub setting-length : (sheet : List ℕ) → length (settingIn sheet) ≡ W (plac
 unfolding settingIn bitsFrom
 setting-length sheet =
     let w = W (placesIn sheet) in
-    let row = numbersAt (numbersFor w) sheet (fourteensAt sheet) in
-    length-take-le w _ (omega (arith, bits-length row, numbers-length sheet (numbersFor w) (fourteensAt sheet)))
+    let row = numbersAt sevens (numbersFor w) sheet (fourteensAt sheet) in
+    length-take-le w _ (omega (arith, bits-length row, numbers-length sevens sheet (numbersFor w) (fourteensAt sheet)))
 
 -- a sheet that was read into a buffer
 module _ (sheet buffer : List ℕ) {read : Answer} {bits : List ℕ} (e : outcome read bits ≡ readSheet sheet buffer) where

@@ -12,12 +12,11 @@ use Rattle.answers.specs.Outcomes.{answerOf, bufferOf, Outcome, outcome}
 use Rattle.answers.proofs.Outcomes.{Numbered, accepted-when, numbered-both}
 use Rattle.answers.proofs.Buffers.{overlay-front}
 use Rattle.counts.specs.Counts.{W}
-use Rattle.numbers.specs.Numbers.{numberQuestions}
+use Rattle.numbers.specs.Numbers.{numberQuestions, sevens}
 use Rattle.numbers.proofs.Numbers.{numbered}
-use Rattle.sheets.specs.Reading.{numbersQuestions}
-use Rattle.sheets.proofs.Rows.{numbers-length}
+use Rattle.rows.specs.Rows.{numbersQuestions}
+use Rattle.rows.proofs.Rows.{numbers-length, numbered-row}
 use Rattle.answers.proofs.Questions.{both-pass}
-use Rattle.sheets.proofs.Round.{numbered-row}
 use Rattle.cmd_order.specs.Orders.{countIn, entriesAt, orderIn, formQuestions, entryQuestions, orderQuestions, settingFor, orderSetting}
 use Rattle.cmd_order.proofs.Asking.{places-small}
 use Rattle.cmd_order.proofs.Setting.{setting-length}
@@ -27,7 +26,7 @@ unfolding orderQuestions formQuestions
 order-numbered input =
     numbered-both (formQuestions input) (entryQuestions (orderIn input))
     (numbered-both (numberQuestions input 0) _ (numbered input 0)
-    (omega arith, numbered-both (numbersQuestions (countIn input) input (entriesAt input)) _ (numbered-row (countIn input) input (entriesAt input)) (omega arith, tt)))
+    (omega arith, numbered-both (numbersQuestions sevens (countIn input) input (entriesAt input)) _ (numbered-row sevens input (numbered input) (countIn input) (entriesAt input)) (omega arith, tt)))
     (omega arith, tt)
 
 -- all questions got a yes; the count is the number of places, and the setting is in front
@@ -52,7 +51,7 @@ order-accepted input before {a} {bits} O z =
     ap (λ (a : Answer). a .count) answered ∙ ap (λ v. answerOf v (countIn input) .count) yes
     in
     let long : length (settingFor order) ≡ W (a .count) =
-    setting-length order (both .second) ∙ ap W (numbers-length input (countIn input) (entriesAt input) ∙ sym places)
+    setting-length order (both .second) ∙ ap W (numbers-length sevens input (countIn input) (entriesAt input) ∙ sym places)
     in
     let front : bits ≡ settingFor order ++ drop (length (settingFor order)) before =
     ap (λ (o : Outcome). o .buffer) O ∙ ap (λ v. bufferOf v (settingFor order) before) yes ∙ overlay-front before (settingFor order)

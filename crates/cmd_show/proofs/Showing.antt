@@ -22,7 +22,8 @@ use Rattle.network.specs.Blocks.{orderOf}
 use Rattle.network.proofs.Paper.{paper-lawful}
 use Rattle.network.proofs.Order.{length-order}
 use Rattle.sheets.specs.Sheet.{numbersFor}
-use Rattle.sheets.specs.Reading.{numbersAt, bitsIn}
+use Rattle.rows.specs.Rows.{numbersAt}
+use Rattle.sheets.specs.Reading.{bitsIn}
 use Rattle.sheets.specs.Calls.{placesIn, fourteensAt, bitsFrom, readQuestions, readSheet}
 use Rattle.sheets.proofs.Unpacking.{bits-length, bit-at, bits-take}
 use Rattle.answers.proofs.Putting.{put-then, put-length}
@@ -31,6 +32,7 @@ use Rattle.cmd_lines.proofs.Decimal.{digits-few}
 use Rattle.cmd_lines.proofs.Lines.{put-kept, bits-within}
 use Rattle.cmd_move.specs.Calls.{settingIn}
 use Rattle.cmd_move.proofs.Moving.{Stopped, read-stopped, read-passed, read-places, read-few, read-setting, setting-length}
+use Rattle.numbers.specs.Numbers.{sevens}
 use Rattle.cmd_show.specs.Show.{orderText, pictured, settingText, showCall}
 
 -- ---- the lines
@@ -100,7 +102,7 @@ are-bits vs i = elim (decLt i (14 * length vs)) [
 
 setting-bits : (sheet : List ℕ) → Bits (settingIn sheet)
 unfolding settingIn bitsFrom
-setting-bits sheet = bits-take (W (placesIn sheet)) _ (are-bits (numbersAt (numbersFor (W (placesIn sheet))) sheet (fourteensAt sheet)))
+setting-bits sheet = bits-take (W (placesIn sheet)) _ (are-bits (numbersAt sevens (numbersFor (W (placesIn sheet))) sheet (fourteensAt sheet)))
 
 module _ (sheet before out : List ℕ) (room : length before ≡ 9217) {read : Answer} {bits : List ℕ} (e : outcome read bits ≡ readSheet sheet before) where
   pub show-refused : (read .number ≡ 0 → ⊥) → outcome read out ≡ showCall sheet out

@@ -18,11 +18,12 @@ use Rattle.counts.specs.Counts.{W}
 use Rattle.numbers.specs.Reading.{readOf}
 use Rattle.numbers.specs.declared.ReadNumber.{ReadNumber}
 use Rattle.numbers.specs.declared.ReadNumber.the-variants.{Number, Refused}
+use Rattle.numbers.specs.Numbers.{sevens}
 use Rattle.numbers.proofs.Numbers.{Got, got-number, got-refused}
+use Rattle.rows.specs.Rows.{numbersAt, placePast, Row}
 use Rattle.sheets.specs.Sheet.{numbersFor, sheet}
-use Rattle.sheets.specs.Reading.{numbersAt, placePast, bitsIn}
+use Rattle.sheets.specs.Reading.{bitsIn}
 use Rattle.sheets.specs.Calls.{writeQuestions, writeSheet, placesIn, fourteensAt, headQuestions, bodyQuestions, bitsFrom, readQuestions, readSheet}
-use Rattle.sheets.specs.Inner.{Row}
 use Rattle.sheets.proofs.Asking.{head-sized}
 
 -- ---- write sheet
@@ -114,7 +115,7 @@ module _ (input : List ℕ) (room : ℕ) {head : ReadNumber} (e : head ≡ readO
 
     module _
         {w : ℕ} {values : List ℕ} {body : ReadNumber} (c : w ≡ W n)
-        (R : Row (bodyQuestions input w at) (numbersFor w) (placePast (numbersFor w) input at) (numbersFor w) (numbersAt (numbersFor w) input at) values body)
+        (R : Row (bodyQuestions input w at) (numbersFor w) (placePast sevens (numbersFor w) input at) (numbersFor w) (numbersAt sevens (numbersFor w) input at) values body)
       where
         same : bodyQuestions input w at ≡ bodyQuestions input (W (placesIn input)) (fourteensAt input)
         same = rw (c, head-got .value, head-got .place)
@@ -124,11 +125,11 @@ module _ (input : List ℕ) (room : ℕ) {head : ReadNumber} (e : head ≡ readO
         to-body = asked-both (headQuestions input room) (bodyQuestions input (W (placesIn input)) (fourteensAt input)) (head-got .asked) ∙ sym (ap firstNo same)
 
         pub body-stops : {q p : ℕ} → body ≡ Refused q p → firstNo (readQuestions input room) ≡ noAt q p
-        body-stops s = to-body ∙ got-refused (firstNo (bodyQuestions input w at)) (numbersFor w) (placePast (numbersFor w) input at) (sym s ∙ R .answer)
+        body-stops s = to-body ∙ got-refused (firstNo (bodyQuestions input w at)) (numbersFor w) (placePast sevens (numbersFor w) input at) (sym s ∙ R .answer)
 
         module _ {k end : ℕ} (s : body ≡ Number k end) where
-          body-got : Got (firstNo (bodyQuestions input w at)) (numbersFor w) (placePast (numbersFor w) input at) k end
-          body-got = got-number (firstNo (bodyQuestions input w at)) (numbersFor w) (placePast (numbersFor w) input at) (sym s ∙ R .answer)
+          body-got : Got (firstNo (bodyQuestions input w at)) (numbersFor w) (placePast sevens (numbersFor w) input at) k end
+          body-got = got-number (firstNo (bodyQuestions input w at)) (numbersFor w) (placePast sevens (numbersFor w) input at) (sym s ∙ R .answer)
 
           pub read-passes : firstNo (readQuestions input room) ≡ allYes
           read-passes = to-body ∙ body-got .asked
@@ -139,7 +140,7 @@ module _ (input : List ℕ) (room : ℕ) {head : ReadNumber} (e : head ≡ readO
           pub read-bits : take w (bitsIn (take k values)) ≡ setting input
           unfolding bitsFrom
           read-bits =
-              let row : take k values ≡ numbersAt (numbersFor w) input at = rw (body-got .value) (R .numbers (body-got .asked)) in
+              let row : take k values ≡ numbersAt sevens (numbersFor w) input at = rw (body-got .value) (R .numbers (body-got .asked)) in
               rw row (rw (c, head-got .value, head-got .place))
 
 -- how many numbers a row has put there

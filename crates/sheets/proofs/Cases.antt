@@ -10,8 +10,9 @@ use Rattle.answers.specs.Questions.{firstBadFrom}
 use Rattle.answers.specs.Outcomes.{Outcome, outcome}
 use Rattle.counts.specs.Counts.{W, byHalves}
 use Rattle.numbers.specs.Numbers.{numberBytes, numberQuestions, numberAt}
-use Rattle.sheets.specs.Sheet.{bitsNumber, fourteens, numbersBytes, sheet}
-use Rattle.sheets.specs.Reading.{numbersQuestions, numbersAt, placePast, lowBits, bitsIn, allZero}
+use Rattle.rows.specs.Rows.{numbersBytes, numbersQuestions, numbersAt, placePast}
+use Rattle.sheets.specs.Sheet.{bitsNumber, fourteens, sheet}
+use Rattle.sheets.specs.Reading.{lowBits, bitsIn, allZero}
 use Rattle.sheets.specs.Calls.{writeQuestions, writeSheet, headQuestions, bitsFrom, bodyQuestions, readQuestions, readSheet}
 
 -- a setting and its sheet; a sheet that is refused, with the question and the place

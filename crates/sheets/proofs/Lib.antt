@@ -1,5 +1,4 @@
 pub mod Unpacking
-pub mod Rows
 pub mod Writing
 pub mod Asking
 pub mod Calls

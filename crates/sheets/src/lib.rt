@@ -8,12 +8,12 @@ ghost use Rattle.answers.specs.Questions.{firstNo};
 ghost use Rattle.answers.specs.Buffers.{overlay, Put};
 ghost use Rattle.answers.specs.Outcomes.{outcome};
 ghost use Rattle.bits.specs.Bits.{Bits};
-ghost use Rattle.numbers.specs.Numbers.{numberBytes};
+ghost use Rattle.numbers.specs.Numbers.{sevens};
 ghost use Rattle.numbers.specs.Reading.{readOf};
-ghost use Rattle.sheets.specs.Sheet.{bitsNumber, numbersFor, fourteens, numbersBytes, sheet};
-ghost use Rattle.sheets.specs.Reading.{numbersQuestions, numbersAt, placePast, bitsIn, allZero};
+ghost use Rattle.rows.specs.Rows.{numbersAt, placePast, Row, Fourteens};
+ghost use Rattle.sheets.specs.Sheet.{bitsNumber, numbersFor, fourteens, sheet};
+ghost use Rattle.sheets.specs.Reading.{bitsIn, allZero};
 ghost use Rattle.sheets.specs.Calls.{writeSheet, readSheet, headQuestions, bodyQuestions, placesIn, fourteensAt};
-ghost use Rattle.sheets.specs.Inner.{Row, Fourteens};
 use answers::Answer;
 use numbers::ReadNumber;
 
@@ -47,44 +47,28 @@ fn make_sheet(n: usize, bits: &[u8], buf: &mut [u8]) -> usize
     requires { ⌜ (n ≤ 1024) × (length (now bits) ≤ 9217) × Bits (now bits) × (1321 ≤ length (now buf)) ⌝ }
     ensures { λ r. ⌜ Put (now (buf .entry)) 0 (sheet n (now (bits .entry))) r (now (buf .exit)) ⌝ }
 {
-    let a = put_number(buf, 0, 1);
-    let b = put_number(buf, a, n);
+    let mut row = [0u16; 659];
     let k = (bits.len() + 13) / 14;
-    put_fourteens(bits, k, buf, b)
+    gather(bits, k, &mut row);
+    let a = numbers::put_number(buf, 0, 1);
+    let b = numbers::put_number(buf, a, n);
+    rows::put_row(&row[..k], buf, b)
 }
 
-// A number's bytes, at a place of buf. The answer is the place after them. Public for the crate that writes an order in the
-// same numbers, and so with a `requires` of its own.
-pub fn put_number(buf: &mut [u8], at: usize, v: usize) -> usize
-    requires { ⌜ (v < 16384) × (at + 2 ≤ length (now buf)) ⌝ }
-    ensures { λ r. ⌜ Put (now (buf .entry)) at (numberBytes v) r (now (buf .exit)) ⌝ }
+// The numbers of k fourteens of bits, over the front of row.
+fn gather(bits: &[u8], k: usize, row: &mut [u16])
+    requires { ⌜ (14 * k ≤ length (now bits) + 13) × (k ≤ length (now row)) × Bits (now bits) ⌝ }
+    ensures { λ _. ⌜ now (row .exit) ≡ overlay (now (row .entry)) 0 (fourteens k (now (bits .entry))) ⌝ }
 {
-    if v < 128 {
-        buf[at] = v as u8;
-        return at + 1;
-    }
-    let second = at + 1;
-    buf[at] = (v % 128 + 128) as u8;
-    buf[second] = (v / 128) as u8;
-    at + 2
-}
-
-// The numbers of k fourteens of bits, from a place of buf on. The answer is the place after them.
-fn put_fourteens(bits: &[u8], k: usize, buf: &mut [u8], start: usize) -> usize
-    requires { ⌜ (14 * k ≤ length (now bits) + 13) × (start + 2 * k ≤ length (now buf)) × Bits (now bits) ⌝ }
-    ensures { λ r. ⌜ Put (now (buf .entry)) start (numbersBytes (fourteens k (now (bits .entry)))) r (now (buf .exit)) ⌝ }
-{
-    let mut at = start;
     let mut j = 0;
     while j < k {
-        at = put_number(buf, at, fourteen(bits, j * 14));
+        row[j] = fourteen(bits, j * 14);
         j += 1;
     }
-    at
 }
 
 // The number of the fourteen bits from a place on, or of those that are left: the last, which is the highest, goes in first.
-fn fourteen(bits: &[u8], from: usize) -> usize
+fn fourteen(bits: &[u8], from: usize) -> u16
     requires { ⌜ (from ≤ length (now bits)) × Bits (now bits) ⌝ }
     ensures { λ r. ⌜ r ≡ bitsNumber (take 14 (drop from (now (bits .entry)))) ⌝ }
 {
@@ -104,10 +88,10 @@ fn at_most_fourteen(left: usize) -> usize
     if left < 14 { left } else { 14 }
 }
 
-fn wide(x: u8) -> usize
+fn wide(x: u8) -> u16
     ensures { λ r. ⌜ r ≡ x ⌝ }
 {
-    x as usize
+    x as u16
 }
 
 // The first n bytes of made, over the front of out.
@@ -133,7 +117,7 @@ pub fn read_sheet(input: &[u8], bits: &mut [u8]) -> Answer
         return numbers::answer(head);
     };
     let w = counts::switches(n);
-    let mut values = [0usize; 659];
+    let mut values = [0u16; 659];
     let body = read_body(input, w, at, &mut values);
     let ReadNumber::Number(k, _) = body else {
         return numbers::answer(body);
@@ -168,13 +152,13 @@ fn read_head(input: &[u8], room: usize) -> ReadNumber
 
 // The numbers of w bits, their fill bits, and whether the input ends there: how many numbers there are with the place
 // after them, or the refusal. The numbers go to the front of values.
-fn read_body(input: &[u8], w: usize, at: usize, values: &mut [usize]) -> ReadNumber
+fn read_body(input: &[u8], w: usize, at: usize, values: &mut [u16]) -> ReadNumber
     requires { ⌜ (w ≤ 9217) × (659 ≤ length (now values)) ⌝ }
-    ensures { λ r. ⌜ Row (bodyQuestions (now (input .entry)) w at) (numbersFor w) (placePast (numbersFor w) (now (input .entry)) at)
-        (numbersFor w) (numbersAt (numbersFor w) (now (input .entry)) at) (now (values .exit)) r ⌝ }
+    ensures { λ r. ⌜ Row (bodyQuestions (now (input .entry)) w at) (numbersFor w) (placePast sevens (numbersFor w) (now (input .entry)) at)
+        (numbersFor w) (numbersAt sevens (numbersFor w) (now (input .entry)) at) (now (values .exit)) r ⌝ }
 {
     let k = (w + 13) / 14;
-    let row = read_row(input, at, k, values);
+    let row = rows::read_row(input, at, k, values);
     let ReadNumber::Number(last, end) = row else {
         return row;
     };
@@ -187,30 +171,8 @@ fn read_body(input: &[u8], w: usize, at: usize, values: &mut [usize]) -> ReadNum
     ReadNumber::Number(k, end)
 }
 
-// k numbers from a place on, to the front of values: the place of the last one with the place after it, or the refusal.
-fn read_row(input: &[u8], start: usize, k: usize, values: &mut [usize]) -> ReadNumber
-    requires { ⌜ k ≤ length (now values) ⌝ }
-    ensures { λ r. ⌜ Row (numbersQuestions k (now (input .entry)) start) (placePast (k - 1) (now (input .entry)) start)
-        (placePast k (now (input .entry)) start) k (numbersAt k (now (input .entry)) start) (now (values .exit)) r ⌝ }
-{
-    let mut last = start;
-    let mut at = start;
-    let mut j = 0;
-    while j < k {
-        let next = numbers::read_number(input, at);
-        let ReadNumber::Number(v, past) = next else {
-            return next;
-        };
-        values[j] = v;
-        last = at;
-        at = past;
-        j += 1;
-    }
-    ReadNumber::Number(last, at)
-}
-
 // Whether the bits of the numbers past the first w are 0: they are the highest of the last number.
-fn filled(values: &[usize], w: usize) -> bool
+fn filled(values: &[u16], w: usize) -> bool
     requires { ⌜ (length (now values) ≡ numbersFor w) × (w ≤ 9217) × Fourteens (now values) ⌝ }
     ensures { λ r. ⌜ r ≡ allZero (drop w (bitsIn (now (values .entry)))) ⌝ }
 {
@@ -219,19 +181,25 @@ fn filled(values: &[usize], w: usize) -> bool
         return true;
     }
     let own = w - 14 * (k - 1);
-    values[k - 1] >> own == 0
+    number(values[k - 1]) >> own == 0
 }
 
 // The first w bits of the numbers, over the front of bits.
-fn write_bits(values: &[usize], w: usize, bits: &mut [u8])
+fn write_bits(values: &[u16], w: usize, bits: &mut [u8])
     requires { ⌜ (w ≤ length (now bits)) × (numbersFor w ≤ length (now values)) × (w ≤ 9217) ⌝ }
     ensures { λ _. ⌜ now (bits .exit) ≡ overlay (now (bits .entry)) 0 (take w (bitsIn (now (values .entry)))) ⌝ }
 {
     let mut i = 0;
     while i < w {
-        let v = values[i / 14];
+        let v = number(values[i / 14]);
         let shift = i % 14;
         bits[i] = ((v >> shift) % 2) as u8;
         i += 1;
     }
+}
+
+fn number(x: u16) -> usize
+    ensures { λ r. ⌜ r ≡ x ⌝ }
+{
+    x as usize
 }

@@ -1,4 +1,4 @@
--- `codec::copy_front` meets its contract.
+-- `sheets::copy_front` meets its contract.
 -- Assumes nothing.
 use borrow.Author.Needs.{needs}
 use native.Mathlib.Omega.{arith}

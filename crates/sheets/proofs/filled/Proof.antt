@@ -1,4 +1,4 @@
--- `codec::filled` meets its contract.
+-- `sheets::filled` meets its contract.
 -- Assumes nothing.
 use native.Mathlib.Omega.{arith}
 use Prim.Native.Nat.{_-_}
@@ -9,7 +9,7 @@ use Rattle.sheets.proofs.filled.Statement.{statement}
 use Rattle.sheets.proofs.filled.Tie as tie
 
 returns : tie.Need-returns
-returns c = fill-none (c .before .args .values .now) (c .before .args .w) (c .if1 .taken)
+returns c = fill-none (c .before .before .args .values .now) (c .before .before .args .w) (c .if1 .taken)
 
 sub-own : tie.Need-sub-own
 sub-own c = search needs
@@ -20,20 +20,26 @@ mul-own c = search needs
 sub-own-2 : tie.Need-sub-own-2
 sub-own-2 c = search needs
 
-sub-result : tie.Need-sub-result
-sub-result c = search needs
+sub-number : tie.Need-sub-number
+sub-number c = search needs
 
-mul-result : tie.Need-mul-result
-mul-result c = search needs
+mul-number : tie.Need-mul-number
+mul-number c = search needs
 
-shared-slice-read-result : tie.Need-shared-slice-read-result
-shared-slice-read-result c = search needs
+shared-slice-read-number : tie.Need-shared-slice-read-number
+shared-slice-read-number c = search needs
+
+number-requires : tie.Need-number-requires
+number-requires c κs = search needs
 
 shr-result : tie.Need-shr-result
 shr-result c = search needs
 
 returns-2 : tie.Need-returns-2
-returns-2 c = fill-last (c .before .before .args .values .now) (c .before .before .args .w) (length (c .before .before .args .values .now) - 1) (omega arith) (omega arith) (omega arith) (c .before .before .pre .2)
+returns-2 c =
+    let s = c .before .before .before .before in
+    let values = s .args .values .now in
+    rw (c .number .ensures) (fill-last values (s .args .w) (length values - 1) (omega arith) (omega arith) (omega arith) (s .pre .2))
 
 pub filled-spec : {M : Type 1} → statement M
 filled-spec =
@@ -43,8 +49,9 @@ filled-spec =
     sub-own
     mul-own
     sub-own-2
-    sub-result
-    mul-result
-    shared-slice-read-result
+    sub-number
+    mul-number
+    shared-slice-read-number
+    number-requires
     shr-result
     returns-2)

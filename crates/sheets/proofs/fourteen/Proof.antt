@@ -1,4 +1,4 @@
--- `codec::fourteen` meets its contract.
+-- `sheets::fourteen` meets its contract.
 -- Assumes nothing.
 use borrow.Author.Needs.{needs}
 use native.Mathlib.Omega.{arith}

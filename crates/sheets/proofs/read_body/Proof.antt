@@ -1,13 +1,15 @@
--- `codec::read_body` meets its contract.
+-- `sheets::read_body` meets its contract.
 -- Assumes nothing.
 use native.Mathlib.Omega.{arith}
 use mathlib.Core.Path.{sym, _∙_}
 use lib.Seq.{length-take-le}
 use borrow.Author.Tests.{not-true, not-false}
 use Rattle.sheets.specs.Sheet.{numbersFor}
-use Rattle.sheets.proofs.Rows.{numbers-fit}
+use Rattle.rows.proofs.Rows.{numbers-fit}
 use Rattle.sheets.proofs.Asking.{body-stops, row-there, body-fill, body-surplus, body-done}
 use borrow.Author.Needs.{needs}
+use Rattle.numbers.specs.Numbers.{sevens}
+use Rattle.numbers.proofs.Numbers.{value-small}
 use Rattle.sheets.proofs.read_body.Statement.{statement}
 use Rattle.sheets.proofs.read_body.Tie as tie
 
@@ -36,7 +38,7 @@ slice-aggregate-filled : tie.Need-slice-aggregate-filled
 slice-aggregate-filled c = sym (length-take-le (numbersFor (c .before .before .before .before .before .before .before .before .before .before .args .w)) (c .before .before .before .before .before .before .read-row .last .1 .1 .1 .0) (omega (arith, c .before .before .before .before .before .before .read-row .kept .1 .1 .1 .0, c .before .before .before .before .before .before .before .before .before .before .pre)))
 
 filled-requires : tie.Need-filled-requires
-filled-requires c κs = (length-take-le (numbersFor (c .before .before .before .before .before .before .before .before .before .before .args .w)) (c .before .before .before .before .before .before .read-row .last .1 .1 .1 .0) (omega (arith, c .before .before .before .before .before .before .read-row .kept .1 .1 .1 .0, c .before .before .before .before .before .before .before .before .before .before .pre)), c .before .before .before .before .before .before .before .before .before .before .pre .0, λ i. rw (row-there _ _ _ (c .before .before .row .given .1) (c .before .before .before .before .before .before .read-row .ensures)) (numbers-fit _ _ _ i))
+filled-requires c κs = (length-take-le (numbersFor (c .before .before .before .before .before .before .before .before .before .before .args .w)) (c .before .before .before .before .before .before .read-row .last .1 .1 .1 .0) (omega (arith, c .before .before .before .before .before .before .read-row .kept .1 .1 .1 .0, c .before .before .before .before .before .before .before .before .before .before .pre)), c .before .before .before .before .before .before .before .before .before .before .pre .0, λ i. rw (row-there _ _ _ (c .before .before .row .given .1) (c .before .before .before .before .before .before .read-row .ensures)) (numbers-fit sevens _ (value-small _) _ _ i))
 
 same-length-2 : tie.Need-same-length-2
 same-length-2 c = search needs

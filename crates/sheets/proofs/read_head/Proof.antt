@@ -1,4 +1,4 @@
--- `codec::read_head` meets its contract.
+-- `sheets::read_head` meets its contract.
 -- Assumes nothing.
 use mathlib.Core.Path.{refl, sym, ap, _∙_}
 use Rattle.numbers.specs.Reading.{meaning}

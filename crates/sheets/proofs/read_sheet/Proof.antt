@@ -1,4 +1,4 @@
--- `codec::read_sheet` meets its contract.
+-- `sheets::read_sheet` meets its contract.
 -- Assumes nothing.
 use Rattle.sheets.proofs.Calls.{head-stops, head-few, head-fits, body-stops, read-passes, read-count, read-bits, row-count, read-refused, read-accepted}
 use native.Mathlib.Omega.{arith}

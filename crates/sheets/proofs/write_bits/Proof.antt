@@ -1,12 +1,12 @@
--- `codec::write_bits` meets its contract.
+-- `sheets::write_bits` meets its contract.
 -- Assumes nothing.
-use borrow.Author.Needs.{needs}
 use native.Mathlib.Omega.{arith}
 use mathlib.Core.Path.{sym}
 use Prim.Native.Nat.{_-_}
+use Rattle.answers.proofs.Putting.{Over, over-starts, over-more, over-ends}
 use Rattle.sheets.specs.Reading.{bitsIn}
 use Rattle.sheets.proofs.Unpacking.{bits-length, bit-at}
-use Rattle.answers.proofs.Putting.{Over, over-starts, over-more, over-ends}
+use borrow.Author.Needs.{needs}
 use Rattle.sheets.proofs.write_bits.Statement.{statement}
 use Rattle.sheets.proofs.write_bits.Tie as tie
 
@@ -19,11 +19,14 @@ abbrev μ-loop : tie.MeasureT-loop
 loop-holds : tie.Need-loop-holds Inv-loop μ-loop
 loop-holds c = over-starts _ _ _
 
-mul-v : tie.Need-mul-v Inv-loop μ-loop
-mul-v c = search needs
+mul-number : tie.Need-mul-number Inv-loop μ-loop
+mul-number c = search needs
 
-shared-slice-read-v : tie.Need-shared-slice-read-v Inv-loop μ-loop
-shared-slice-read-v c = search needs
+shared-slice-read-number : tie.Need-shared-slice-read-number Inv-loop μ-loop
+shared-slice-read-number c = search needs
+
+number-requires : tie.Need-number-requires Inv-loop μ-loop
+number-requires c κs = search needs
 
 shr-bits : tie.Need-shr-bits Inv-loop μ-loop
 shr-bits c = search needs
@@ -41,7 +44,7 @@ loop-less : tie.Need-loop-less Inv-loop μ-loop
 loop-less c = search needs
 
 loop-again : tie.Need-loop-again Inv-loop μ-loop
-loop-again c = over-more _ _ _ _ _ _ (omega arith) (omega (arith, bits-length (c .before .before .before .args .values .now))) (omega arith) (sym (bit-at _ _ (omega arith))) (c .before .before .loop .inv)
+loop-again c = over-more _ _ _ _ _ _ (omega arith) (omega (arith, bits-length (c .before .before .before .before .before .before .args .values .now))) (omega arith) (rw (c .number .ensures) (sym (bit-at _ _ (omega arith)))) (c .before .before .before .loop .inv)
 
 same-length : tie.Need-same-length Inv-loop μ-loop
 same-length c = search needs
@@ -56,8 +59,9 @@ write-bits-spec =
     Inv-loop
     μ-loop
     loop-holds
-    mul-v
-    shared-slice-read-v
+    mul-number
+    shared-slice-read-number
+    number-requires
     shr-bits
     cast-bits
     slice-write-bits

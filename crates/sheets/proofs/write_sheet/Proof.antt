@@ -1,4 +1,4 @@
--- `codec::write_sheet` meets its contract.
+-- `sheets::write_sheet` meets its contract.
 -- Assumes nothing.
 use Rattle.answers.proofs.Putting.{put-within, put-front, put-length}
 use Rattle.sheets.proofs.Calls.{too-large, uneven, no-bit, too-short, write-passes, write-refused, write-accepted}

@@ -1,11 +1,11 @@
--- `codec::put_number` meets its contract.
+-- `numbers::put_number` meets its contract.
 -- Assumes nothing.
 use native.Mathlib.Omega.{arith}
 use lib.ListN.{length-set}
-use Rattle.sheets.proofs.Writing.{put-one, put-two}
+use Rattle.numbers.proofs.Writing.{put-one, put-two}
 use borrow.Author.Needs.{needs}
-use Rattle.sheets.proofs.put_number.Statement.{statement}
-use Rattle.sheets.proofs.put_number.Tie as tie
+use Rattle.numbers.proofs.put_number.Statement.{statement}
+use Rattle.numbers.proofs.put_number.Tie as tie
 
 cast-buf : tie.Need-cast-buf
 cast-buf c = search needs
