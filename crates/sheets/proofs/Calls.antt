@@ -23,7 +23,7 @@ use Rattle.numbers.proofs.Numbers.{Got, got-number, got-refused}
 use Rattle.rows.specs.Rows.{numbersAt, placePast, Row}
 use Rattle.sheets.specs.Sheet.{numbersFor, sheet}
 use Rattle.sheets.specs.Reading.{bitsIn}
-use Rattle.sheets.specs.Calls.{writeQuestions, writeSheet, placesIn, fourteensAt, headQuestions, bodyQuestions, bitsFrom, readQuestions, readSheet}
+use Rattle.sheets.specs.Calls.{writeQuestions, writeSheet, placesIn, fourteensAt, headQuestions, bodyQuestions, bitsFrom, readQuestions, readSheet, settingIn}
 use Rattle.sheets.proofs.Asking.{head-sized}
 
 -- ---- write sheet
@@ -92,10 +92,6 @@ module _ (n : ℕ) (bits out : List ℕ) {a : Answer} where
 
 -- ---- read sheet
 
--- the bits that an accepted reading writes
-abbrev pub setting : List ℕ → List ℕ
-setting input = take (W (placesIn input)) (bitsFrom input (W (placesIn input)) (fourteensAt input))
-
 module _ (input : List ℕ) (room : ℕ) {head : ReadNumber} (e : head ≡ readOf (firstNo (headQuestions input room)) (placesIn input) (fourteensAt input)) where
   pub head-stops : {q p : ℕ} → head ≡ Refused q p → firstNo (readQuestions input room) ≡ noAt q p
   unfolding readQuestions
@@ -137,8 +133,8 @@ module _ (input : List ℕ) (room : ℕ) {head : ReadNumber} (e : head ≡ readO
           pub read-count : n ≡ placesIn input
           read-count = head-got .value
 
-          pub read-bits : take w (bitsIn (take k values)) ≡ setting input
-          unfolding bitsFrom
+          pub read-bits : take w (bitsIn (take k values)) ≡ settingIn input
+          unfolding bitsFrom settingIn
           read-bits =
               let row : take k values ≡ numbersAt sevens (numbersFor w) input at = rw (body-got .value) (R .numbers (body-got .asked)) in
               rw row (rw (c, head-got .value, head-got .place))
@@ -154,13 +150,13 @@ row-count {qs} {a} {b} R s = got-number (firstNo qs) a b (sym s ∙ R .answer) .
 module _ (input bits : List ℕ) {a : Answer} where
   pub read-refused : {q p : ℕ} → firstNo (readQuestions input (length bits)) ≡ noAt q p → a ≡ refusal q p → outcome a bits ≡ readSheet input bits
   unfolding readSheet
-  read-refused e r = ends-refused (firstNo (readQuestions input (length bits))) (placesIn input) (setting input) bits e r refl
+  read-refused e r = ends-refused (firstNo (readQuestions input (length bits))) (placesIn input) (settingIn input) bits e r refl
 
   pub read-accepted :
       {after : List ℕ}
       → firstNo (readQuestions input (length bits)) ≡ allYes
       → a ≡ accepted (placesIn input)
-      → after ≡ overlay bits 0 (setting input)
+      → after ≡ overlay bits 0 (settingIn input)
       → outcome a after ≡ readSheet input bits
   unfolding readSheet
-  read-accepted e r k = ends-accepted (firstNo (readQuestions input (length bits))) (placesIn input) (setting input) bits e r k
+  read-accepted e r k = ends-accepted (firstNo (readQuestions input (length bits))) (placesIn input) (settingIn input) bits e r k

@@ -3,4 +3,5 @@ pub mod Writing
 pub mod Asking
 pub mod Calls
 pub mod Round
+pub mod Setting
 pub mod Cases

@@ -9,7 +9,8 @@ use Rattle.answers.specs.Outcomes.{Outcome, settled}
 use Rattle.bits.specs.Bits.{isBit}
 use Rattle.counts.specs.Counts.{W}
 use Rattle.numbers.specs.Numbers.{numberQuestions, numberAt, sevens}
-use Rattle.rows.specs.Rows.{numbersQuestions, numbersAt, placePast}
+use Rattle.numbers.specs.declared.ReadNumber.{ReadNumber}
+use Rattle.rows.specs.Rows.{numbersQuestions, numbersAt, placePast, Row}
 use Rattle.sheets.specs.Sheet.{numbersFor, sheet}
 use Rattle.sheets.specs.Reading.{bitsIn, allZero}
 
@@ -67,9 +68,16 @@ bodyQuestions input w at =
 unfoldable pub readQuestions : List ℕ → ℕ → List Question
 readQuestions input room = headQuestions input room ++ bodyQuestions input (W (placesIn input)) (fourteensAt input)
 
--- the setting's bits over the front of the buffer, and as count n
+-- the setting in a sheet
+unfoldable pub settingIn : List ℕ → List ℕ
+settingIn input = take (W (placesIn input)) (bitsFrom input (W (placesIn input)) (fourteensAt input))
+
+-- its bits over the front of the buffer, and as count n
 unfoldable pub readSheet : List ℕ → List ℕ → Outcome
 readSheet input buffer =
-    settled (firstNo (readQuestions input (length buffer))) (placesIn input)
-    (take (W (placesIn input)) (bitsFrom input (W (placesIn input)) (fourteensAt input)))
-    buffer
+    settled (firstNo (readQuestions input (length buffer))) (placesIn input) (settingIn input) buffer
+
+-- .. read into room for the longest setting: n and W(n) where every question gets a yes, and then the setting in front
+abbrev pub SettingRead : List ℕ → List ℕ → ReadNumber → Type 0
+SettingRead input bits r =
+    Row (readQuestions input 9217) (placesIn input) (W (placesIn input)) (W (placesIn input)) (settingIn input) bits r

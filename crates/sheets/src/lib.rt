@@ -13,7 +13,7 @@ ghost use Rattle.numbers.specs.Reading.{readOf};
 ghost use Rattle.rows.specs.Rows.{numbersAt, placePast, Row, Fourteens};
 ghost use Rattle.sheets.specs.Sheet.{bitsNumber, numbersFor, fourteens, sheet};
 ghost use Rattle.sheets.specs.Reading.{bitsIn, allZero};
-ghost use Rattle.sheets.specs.Calls.{writeSheet, readSheet, headQuestions, bodyQuestions, placesIn, fourteensAt};
+ghost use Rattle.sheets.specs.Calls.{writeSheet, readSheet, headQuestions, bodyQuestions, placesIn, fourteensAt, SettingRead};
 use answers::Answer;
 use numbers::ReadNumber;
 
@@ -124,6 +124,19 @@ pub fn read_sheet(input: &[u8], bits: &mut [u8]) -> Answer
     };
     write_bits(&values[..k], w, bits);
     answers::accept(n)
+}
+
+// The setting of a sheet, over the front of bits, which have room for each: n and W(n), or the refusal. Public for the crates
+// that do something with a setting.
+pub fn read_setting(sheet: &[u8], bits: &mut [u8; 9217]) -> ReadNumber
+    ensures { λ r. ⌜ SettingRead (now (sheet .entry)) (now (bits .exit)) r ⌝ }
+{
+    let read = read_sheet(sheet, bits);
+    if read.number != 0 {
+        return ReadNumber::Refused(read.number, read.place);
+    }
+    let n = read.count;
+    ReadNumber::Number(n, counts::switches(n))
 }
 
 // The form, n, and whether there is room for the bits: n with the place after it, or the refusal.
