@@ -10,7 +10,7 @@ pub fn mix(sheet: &[u8], width: usize, blocks: &mut [u8]) -> Answer
     ensures { λ r. ⌜ outcome r (now (blocks .exit)) ≡ mixCall (now (sheet .entry)) width (now (blocks .entry)) ⌝ }
 {
     let mut bits = [0u8; 9217];
-    let read = sheets::read_setting(sheet, &mut bits);
+    let read = sheet_reader::read_setting(sheet, &mut bits);
     let ReadNumber::Number(n, w) = read else {
         return numbers::answer(read);
     };
@@ -23,7 +23,7 @@ pub fn unmix(sheet: &[u8], width: usize, blocks: &mut [u8]) -> Answer
     ensures { λ r. ⌜ outcome r (now (blocks .exit)) ≡ unmixCall (now (sheet .entry)) width (now (blocks .entry)) ⌝ }
 {
     let mut bits = [0u8; 9217];
-    let read = sheets::read_setting(sheet, &mut bits);
+    let read = sheet_reader::read_setting(sheet, &mut bits);
     let ReadNumber::Number(n, w) = read else {
         return numbers::answer(read);
     };

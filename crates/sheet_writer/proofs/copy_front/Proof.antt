@@ -1,12 +1,12 @@
--- `sheets::copy_front` meets its contract.
+-- `sheet_writer::copy_front` meets its contract.
 -- Assumes nothing.
 use borrow.Author.Needs.{needs}
 use native.Mathlib.Omega.{arith}
 use mathlib.Core.Path.{refl}
 use Prim.Native.Nat.{_-_}
 use Rattle.answers.proofs.Putting.{Over, over-starts, over-more, over-ends}
-use Rattle.sheets.proofs.copy_front.Statement.{statement}
-use Rattle.sheets.proofs.copy_front.Tie as tie
+use Rattle.sheet_writer.proofs.copy_front.Statement.{statement}
+use Rattle.sheet_writer.proofs.copy_front.Tie as tie
 
 abbrev Inv-loop : tie.InvT-loop
 Inv-loop made n out₀ i₀ out i = Over made out₀ out n i

@@ -1,17 +1,17 @@
--- `sheets::read_body` meets its contract.
+-- `sheet_reader::read_body` meets its contract.
 -- Assumes nothing.
 use native.Mathlib.Omega.{arith}
 use mathlib.Core.Path.{sym, _∙_}
 use lib.Seq.{length-take-le}
 use borrow.Author.Tests.{not-true, not-false}
 use Rattle.sheets.specs.Sheet.{numbersFor}
 use Rattle.rows.proofs.Rows.{numbers-fit}
 use Rattle.sheets.proofs.Asking.{body-stops, row-there, body-fill, body-surplus, body-done}
 use borrow.Author.Needs.{needs}
 use Rattle.numbers.specs.Numbers.{sevens}
 use Rattle.numbers.proofs.Numbers.{value-small}
-use Rattle.sheets.proofs.read_body.Statement.{statement}
-use Rattle.sheets.proofs.read_body.Tie as tie
+use Rattle.sheet_reader.proofs.read_body.Statement.{statement}
+use Rattle.sheet_reader.proofs.read_body.Tie as tie
 
 add-k : tie.Need-add-k
 add-k c = search needs

@@ -1,9 +1,9 @@
--- `sheets::read_setting` meets its contract.
+-- `sheet_reader::read_setting` meets its contract.
 -- Assumes nothing.
 use Rattle.sheets.proofs.Setting.{setting-refused, read-few, setting-read}
 use borrow.Author.Needs.{needs}
-use Rattle.sheets.proofs.read_setting.Statement.{statement}
-use Rattle.sheets.proofs.read_setting.Tie as tie
+use Rattle.sheet_reader.proofs.read_setting.Statement.{statement}
+use Rattle.sheet_reader.proofs.read_setting.Tie as tie
 
 read-sheet-requires : tie.Need-read-sheet-requires
 read-sheet-requires c κs = search needs

@@ -1,6 +1,6 @@
--- `sheets::read_sheet` meets its contract.
+-- `sheet_reader::read_sheet` meets its contract.
 -- Assumes nothing.
 use Rattle.sheets.proofs.Calls.{head-stops, head-few, head-fits, body-stops, read-passes, read-count, read-bits, row-count, read-refused, read-accepted}
 use native.Mathlib.Omega.{arith}
 use mathlib.Core.Path.{sym, ap, _∙_}
 use lib.Seq.{length-take-le}
@@ -8,8 +8,8 @@ use Rattle.answers.specs.Answers.{accepted}
 use Rattle.answers.specs.Buffers.{overlay}
 use Rattle.numbers.specs.Reading.{answerOf}
 use borrow.Author.Needs.{needs}
-use Rattle.sheets.proofs.read_sheet.Statement.{statement}
-use Rattle.sheets.proofs.read_sheet.Tie as tie
+use Rattle.sheet_reader.proofs.read_sheet.Statement.{statement}
+use Rattle.sheet_reader.proofs.read_sheet.Tie as tie
 
 read-head-requires : tie.Need-read-head-requires
 read-head-requires c κs = search needs

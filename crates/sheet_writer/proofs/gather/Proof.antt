@@ -1,15 +1,15 @@
--- `sheets::gather` meets its contract.
+-- `sheet_writer::gather` meets its contract.
 -- Assumes nothing.
 use Prim.Native.Nat.{_-_, _*_}
 use native.Mathlib.Omega.{arith}
 use lib.ListN.{take, drop}
 use borrow.Author.Needs.{needs}
 use Rattle.answers.proofs.Putting.{Over, over-starts, each-more, each-ends}
 use Rattle.sheets.specs.Sheet.{bitsNumber, fourteens}
 use Rattle.sheets.proofs.Unpacking.{fourteens-length}
-use Rattle.sheets.proofs.Writing.{fourteens-at}
-use Rattle.sheets.proofs.gather.Statement.{statement}
-use Rattle.sheets.proofs.gather.Tie as tie
+use Rattle.sheet_writer.proofs.Writing.{fourteens-at}
+use Rattle.sheet_writer.proofs.gather.Statement.{statement}
+use Rattle.sheet_writer.proofs.gather.Tie as tie
 
 abbrev Inv-loop : tie.InvT-loop
 Inv-loop bits k row₀ j₀ row j = Over (fourteens k bits) row₀ row k j

@@ -1,14 +1,14 @@
--- `sheets::write_bits` meets its contract.
+-- `sheet_reader::write_bits` meets its contract.
 -- Assumes nothing.
 use native.Mathlib.Omega.{arith}
 use mathlib.Core.Path.{sym}
 use Prim.Native.Nat.{_-_}
 use Rattle.answers.proofs.Putting.{Over, over-starts, over-more, over-ends}
 use Rattle.sheets.specs.Reading.{bitsIn}
 use Rattle.sheets.proofs.Unpacking.{bits-length, bit-at}
 use borrow.Author.Needs.{needs}
-use Rattle.sheets.proofs.write_bits.Statement.{statement}
-use Rattle.sheets.proofs.write_bits.Tie as tie
+use Rattle.sheet_reader.proofs.write_bits.Statement.{statement}
+use Rattle.sheet_reader.proofs.write_bits.Tie as tie
 
 abbrev Inv-loop : tie.InvT-loop
 Inv-loop values w bits₀ i₀ bits i = Over (bitsIn values) bits₀ bits w i

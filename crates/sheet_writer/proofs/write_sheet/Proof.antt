@@ -1,15 +1,15 @@
--- `sheets::write_sheet` meets its contract.
+-- `sheet_writer::write_sheet` meets its contract.
 -- Assumes nothing.
 use Rattle.answers.proofs.Putting.{put-within, put-front, put-length}
 use Rattle.sheets.proofs.Calls.{too-large, uneven, no-bit, too-short, write-passes, write-refused, write-accepted}
 use native.Mathlib.Omega.{arith}
 use mathlib.Core.Path.{sym, ap, _∙_}
 use Rattle.answers.specs.Answers.{accepted}
 use Rattle.answers.specs.Buffers.{overlay}
 use Rattle.bits.proofs.Bytes.{bits-all}
 use borrow.Author.Needs.{needs}
-use Rattle.sheets.proofs.write_sheet.Statement.{statement}
-use Rattle.sheets.proofs.write_sheet.Tie as tie
+use Rattle.sheet_writer.proofs.write_sheet.Statement.{statement}
+use Rattle.sheet_writer.proofs.write_sheet.Tie as tie
 
 refuse-requires : tie.Need-refuse-requires
 refuse-requires c κs = search needs

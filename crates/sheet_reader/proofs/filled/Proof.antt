@@ -1,12 +1,12 @@
--- `sheets::filled` meets its contract.
+-- `sheet_reader::filled` meets its contract.
 -- Assumes nothing.
 use native.Mathlib.Omega.{arith}
 use Prim.Native.Nat.{_-_}
 use lib.ListN.{length}
 use Rattle.sheets.proofs.Unpacking.{fill-none, fill-last}
 use borrow.Author.Needs.{needs}
-use Rattle.sheets.proofs.filled.Statement.{statement}
-use Rattle.sheets.proofs.filled.Tie as tie
+use Rattle.sheet_reader.proofs.filled.Statement.{statement}
+use Rattle.sheet_reader.proofs.filled.Tie as tie
 
 returns : tie.Need-returns
 returns c = fill-none (c .before .before .args .values .now) (c .before .before .args .w) (c .if1 .taken)

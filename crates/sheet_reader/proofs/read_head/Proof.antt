@@ -1,12 +1,12 @@
--- `sheets::read_head` meets its contract.
+-- `sheet_reader::read_head` meets its contract.
 -- Assumes nothing.
 use mathlib.Core.Path.{refl, sym, ap, _∙_}
 use Rattle.numbers.specs.Reading.{meaning}
 use Rattle.numbers.proofs.Numbers.{reads}
 use Rattle.sheets.proofs.Asking.{form-stops, form-wrong, places-stop, places-large, room-short, head-done}
 use borrow.Author.Needs.{needs}
-use Rattle.sheets.proofs.read_head.Statement.{statement}
-use Rattle.sheets.proofs.read_head.Tie as tie
+use Rattle.sheet_reader.proofs.read_head.Statement.{statement}
+use Rattle.sheet_reader.proofs.read_head.Tie as tie
 
 read-number-requires : tie.Need-read-number-requires
 read-number-requires c κs = search needs

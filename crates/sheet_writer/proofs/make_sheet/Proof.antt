@@ -1,16 +1,17 @@
--- `sheets::make_sheet` meets its contract.
+-- `sheet_writer::make_sheet` meets its contract.
 -- Assumes nothing.
 use native.Mathlib.Omega.{arith}
 use mathlib.Core.Path.{sym}
 use lib.ListN.{length, replicate, length-take}
 use lib.Seq.{length-take-le}
 use Rattle.numbers.proofs.Numbers.{bytes-few}
 use Rattle.sheets.specs.Sheet.{numbersFor}
 use Rattle.sheets.proofs.Unpacking.{fourteens-fit}
-use Rattle.sheets.proofs.Writing.{row-made, one-byte, sheet-put}
+use Rattle.sheets.proofs.Writing.{one-byte}
+use Rattle.sheet_writer.proofs.Writing.{sheet-put, row-made}
 use borrow.Author.Needs.{needs}
-use Rattle.sheets.proofs.make_sheet.Statement.{statement}
-use Rattle.sheets.proofs.make_sheet.Tie as tie
+use Rattle.sheet_writer.proofs.make_sheet.Statement.{statement}
+use Rattle.sheet_writer.proofs.make_sheet.Tie as tie
 
 add-k : tie.Need-add-k
 add-k c = search needs

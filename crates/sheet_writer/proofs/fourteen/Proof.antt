@@ -1,14 +1,14 @@
--- `sheets::fourteen` meets its contract.
+-- `sheet_writer::fourteen` meets its contract.
 -- Assumes nothing.
 use borrow.Author.Needs.{needs}
 use native.Mathlib.Omega.{arith}
 use mathlib.Core.Path.{sym, _∙_}
 use Prim.Native.Nat.{_+_, _-_, _≤_}
 use lib.ListN.{drop, length-take, length-drop}
 use Rattle.sheets.proofs.Unpacking.{is-bit}
-use Rattle.sheets.proofs.Writing.{Taking, taking-starts, taking-small, taking-more, taking-ends}
-use Rattle.sheets.proofs.fourteen.Statement.{statement}
-use Rattle.sheets.proofs.fourteen.Tie as tie
+use Rattle.sheet_writer.proofs.Writing.{Taking, taking-starts, taking-small, taking-more, taking-ends}
+use Rattle.sheet_writer.proofs.fourteen.Statement.{statement}
+use Rattle.sheet_writer.proofs.fourteen.Tie as tie
 
 abbrev Inv-loop : tie.InvT-loop
 Inv-loop bits from size v₀ j₀ v j = (j ≤ size) × Taking bits from v (size - j)
