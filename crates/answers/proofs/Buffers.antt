@@ -63,5 +63,8 @@ overlay-more b at xs x h =
 pub overlay-read : (b : List ℕ) (words : List ℕ) → take (length words) (overlay b 0 words) ≡ words
 overlay-read b words = rw (overlay-front b words) (take-at words (drop (length words) b) (length words) refl)
 
+pub overlay-taken : (b : List ℕ) {out words : List ℕ} {n : ℕ} → out ≡ overlay b 0 words → length words ≡ n → take n out ≡ words
+overlay-taken b {words = words} e l = rw (e, ← l) (overlay-read b words)
+
 pub overlay-beyond : (b : List ℕ) (words : List ℕ) → drop (length words) (overlay b 0 words) ≡ drop (length words) b
 overlay-beyond b words = rw (overlay-front b words) (drop-at words (drop (length words) b) (length words) refl)

@@ -2,7 +2,7 @@
 -- Assumes nothing.
 use mathlib.Core.Path.{_≡_, refl, sym, ap, _∙_}
 use mathlib.Core.Bool.{Bool, true, false}
-use mathlib.Core.List.{List, [], _∷_}
+use mathlib.Core.List.{List, [], _∷_, _++_}
 use Prim.Native.Nat.{ℕ, zero, suc, _≤_, _<_}
 use native.Mathlib.Omega.{arith}
 use lib.ListN.{length}
@@ -33,6 +33,11 @@ module _ (v : Verdict) (count : ℕ) (words b entries l : List ℕ) {a : Answer}
 abbrev pub Numbered : List Question → Type 0
 Numbered [] = Unit {0}
 Numbered (q ∷ qs) = (0 < q .number) × Numbered qs
+
+-- .. of two sequences
+pub numbered-both : (qs rs : List Question) → Numbered qs → Numbered rs → Numbered (qs ++ rs)
+numbered-both [] rs h g = g
+numbered-both (q ∷ qs) rs h g = (h .0, numbered-both qs rs (h .1) g)
 
 no-number : (qs : List Question) → Numbered qs → {n p : ℕ} → firstNo qs ≡ noAt n p → 0 < n
 no-number [] h {n} {p} e = absurd (let z : allYes ≡ noAt n p = e in let y : _≡_ {A = ℕ} 0 1 = cc in omega arith)

@@ -34,6 +34,21 @@ asked-first (q ∷ qs) rs {n} {p} e = go (q .yes) refl (asked-first qs rs {n = n
     go true t r = rw t (r (sym (rw t) ∙ e))
     go false t r = rw t (sym (rw t) ∙ e)
 
+-- both of two sequences pass where the two together do
+pub record BothPass (qs rs : List Question) : Type 0 where
+  pub first : firstNo qs ≡ allYes
+  pub second : firstNo rs ≡ allYes
+
+pub never : {q p : ℕ} → noAt q p ≡ allYes → ⊥
+never {q} {p} e = let z : noAt q p ≡ allYes = e in let y : _≡_ {A = ℕ} 0 1 = cc in omega arith
+
+pub both-pass : (qs rs : List Question) → firstNo (qs ++ rs) ≡ allYes → BothPass qs rs
+both-pass qs rs e = go (firstNo qs) refl
+  where
+    go : (w : Verdict) → firstNo qs ≡ w → BothPass qs rs
+    go allYes t = record { first = t; second = sym (asked-both qs rs t) ∙ e }
+    go (noAt q p) t = absurd (never (sym (asked-first qs rs t) ∙ e))
+
 -- a sequence passes exactly when its first question gets a yes and the rest passes
 pub record Passed (b : Bool) (qs : List Question) : Type 0 where
   pub here : b ≡ true

@@ -86,7 +86,7 @@ pub extern "C" fn lomuveran_shuffle(n: usize, words: &[u32], out: &mut [u16]) ->
 pub extern "C" fn lomuveran_write_sheet(n: usize, bits: &[u8], out: &mut [u8]) -> CAnswer
     ensures { λ r. ⌜ outcome (answerIn r) (now (out .exit)) ≡ writeSheet n (now (bits .entry)) (now (out .entry)) ⌝ }
 {
-    tell(sheets::write_sheet(n, bits, out))
+    tell(sheet_writer::write_sheet(n, bits, out))
 }
 
 // 01: read sheet.
@@ -94,7 +94,7 @@ pub extern "C" fn lomuveran_write_sheet(n: usize, bits: &[u8], out: &mut [u8]) -
 pub extern "C" fn lomuveran_read_sheet(input: &[u8], bits: &mut [u8]) -> CAnswer
     ensures { λ r. ⌜ outcome (answerIn r) (now (bits .exit)) ≡ readSheet (now (input .entry)) (now (bits .entry)) ⌝ }
 {
-    tell(sheets::read_sheet(input, bits))
+    tell(sheet_reader::read_sheet(input, bits))
 }
 
 // The answer of the number reader, with the two numbers that stand beside it.

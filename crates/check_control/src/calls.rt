@@ -53,12 +53,12 @@ pub(crate) fn mix(
 
 pub(crate) fn write_sheet(n: usize, bits: &[u8], w: usize, sheet: &mut [u8]) -> Answer {
     let count = least(w, bits.len());
-    sheets::write_sheet(n, &bits[..count], sheet)
+    sheet_writer::write_sheet(n, &bits[..count], sheet)
 }
 
 pub(crate) fn read_sheet(sheet: &[u8], end: usize, bits: &mut [u8]) -> Answer {
     let count = least(end, sheet.len());
-    sheets::read_sheet(&sheet[..count], bits)
+    sheet_reader::read_sheet(&sheet[..count], bits)
 }
 
 pub(crate) fn draw(n: usize, words: &[u32], order: &mut [u16]) -> Answer {

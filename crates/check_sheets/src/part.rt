@@ -7,13 +7,13 @@ ghost use lib.ListN.{length};
 pub(crate) fn write(n: usize, bits: &[u8], w: usize, out: &mut [u8], room: usize) -> Answer
     requires { ⌜ (w ≤ length (now bits)) × (room ≤ length (now out)) ⌝ }
 {
-    sheets::write_sheet(n, &bits[..w], &mut out[..room])
+    sheet_writer::write_sheet(n, &bits[..w], &mut out[..room])
 }
 
 pub(crate) fn read(input: &[u8], end: usize, bits: &mut [u8], room: usize) -> Answer
     requires { ⌜ (end ≤ length (now input)) × (room ≤ length (now bits)) ⌝ }
 {
-    sheets::read_sheet(&input[..end], &mut bits[..room])
+    sheet_reader::read_sheet(&input[..end], &mut bits[..room])
 }
 
 pub(crate) fn plain_write(n: usize, bits: &[u8], w: usize, out: &mut [u8], room: usize) -> Answer

@@ -11,7 +11,7 @@ use lib.ListN.{length, take}
 use Rattle.answers.specs.Answers.{accepted}
 use Rattle.answers.specs.Buffers.{overlay}
 use Rattle.answers.specs.Outcomes.{Outcome, outcome}
-use Rattle.answers.proofs.Questions.{passed}
+use Rattle.answers.proofs.Questions.{passed, BothPass, both-pass}
 use Rattle.answers.proofs.Buffers.{overlay-read}
 use Rattle.counts.specs.Counts.{W}
 use Rattle.counts.proofs.Most.{switches-few}
@@ -23,10 +23,11 @@ use Rattle.permutation.proofs.Tables.{length-tabulate}
 use Rattle.shuffle.specs.Shuffled.{shuffled}
 use Rattle.shuffle.proofs.Steps.{shuffled-permutation}
 use Rattle.steps_canonical.proofs.Whole.{setting-canonical}
+use Rattle.numbers.specs.Numbers.{sevens}
+use Rattle.numbers.proofs.Numbers.{bytes-few}
+use Rattle.rows.proofs.Rows.{numbers-length, bytes-most}
 use Rattle.sheets.specs.Sheet.{sheet}
-use Rattle.sheets.proofs.Asking.{BothPass, both-pass}
-use Rattle.sheets.proofs.Rows.{numbers-length}
-use Rattle.sheets.proofs.Writing.{bytes-most, sheet-length}
+use Rattle.sheets.proofs.Writing.{sheet-length}
 use Rattle.steps.specs.Setting.{settingFor}
 use Rattle.cmd_order.specs.Orders.{countIn, entriesAt, orderIn, formQuestions, entryQuestions, orderQuestions}
 use Rattle.cmd_order.proofs.Asking.{places-small}
@@ -64,7 +65,7 @@ module _ (n : ℕ) (bytes out : List ℕ) (small : n ≤ 1024) (filled : length 
         permutation = permutation;
         draw-accepted = ap (λ (o : Outcome). o .answer) draw-is;
         order-written = rw wrote-order (order-holds n order small permutation);
-        order-fits = rw wrote-order (omega (arith, bytes-most (length order ∷ order), permutation .whole));
+        order-fits = rw wrote-order (omega (arith, bytes-most sevens (λ v. bytes-few v .1) (length order ∷ order), permutation .whole));
       }
 
 -- ---- sheet
@@ -82,7 +83,7 @@ module _ (n : ℕ) (order input out : List ℕ) (H : Holds n order input) where
       let es = orderIn input in
       let bad = firstBadEntry es in
       let all = eqb-true bad (length es) (passed 6 bad (eqb bad (length es)) [] (both .second) .here) in
-      let long : length es ≡ n = numbers-length input (countIn input) (entriesAt input) ∙ H .places in
+      let long : length es ≡ n = numbers-length sevens input (countIn input) (entriesAt input) ∙ H .places in
       rw (H .entries) at (rw long at (passes-permutation es all))
 
   D : Demand2 n order

@@ -17,7 +17,7 @@ use Rattle.network.specs.Blocks.{moved, movedBack}
 use Rattle.permutation.specs.Permutations.{IsPermutation}
 use Rattle.canonical.proofs.Paper.{paper-order}
 use Rattle.sheets.specs.Sheet.{sheet}
-use Rattle.sheets.specs.Calls.{readSheet}
+use Rattle.sheets.specs.Calls.{SettingRead}
 use Rattle.apply.specs.Calls.{applyCall, inverseCall}
 use Rattle.cmd_move.specs.Calls.{mixCall, unmixCall}
 use Rattle.cmd_move.proofs.Moving.{move-settles}
@@ -26,6 +26,8 @@ use Rattle.cmd_show.proofs.Showing.{show-done}
 use Rattle.claims.specs.Calls.{Call, mixing, returning, mix, return, outcomeOf}
 use Rattle.claims.specs.Carrying.{Filled, RoomToMove, Demand2}
 use Rattle.claims.proofs.Demands.{accepted-passes, leaves, length-movedBy}
+use Rattle.sheets.proofs.Setting.{setting-read}
+use Rattle.numbers.specs.declared.ReadNumber.the-variants.{Number}
 use Rattle.claims_job.specs.Job.{Moves, shown}
 
 module _ (n : ℕ) (order : List ℕ) (small : n ≤ 1024) (D : Demand2 n order) where
@@ -37,8 +39,10 @@ module _ (n : ℕ) (order : List ℕ) (small : n ≤ 1024) (D : Demand2 n order)
 
   -- with room for the longest setting and the longest log, as the programs have it
   module _ (buffer log : List ℕ) (room : length buffer ≡ 9217) (log-room : length log ≡ 27651) where
-    read : outcome (accepted n) (overlay buffer 0 setting) ≡ readSheet made buffer
-    read = sym (D .sheet-read setting buffer (D .house-setting) (omega (arith, room, switches-few n small)))
+    read : SettingRead made (overlay buffer 0 setting) (Number n (W n))
+    read =
+        setting-read made buffer room {read = accepted n}
+        (sym (D .sheet-read setting buffer (D .house-setting) (omega (arith, room, switches-few n small)))) refl refl
 
     front : take (W n) (overlay buffer 0 setting) ≡ setting
     front =
@@ -52,12 +56,12 @@ module _ (n : ℕ) (order : List ℕ) (small : n ≤ 1024) (D : Demand2 n order)
     mix-is : (width : ℕ) (blocks : List ℕ) → mixCall made width blocks ≡ unlogged (mix n width blocks setting log)
     unfolding mixCall applyCall
     mix-is width blocks =
-        sym (move-settles (moved paper) made buffer room width blocks read refl {w = W n} refl (rw (front, log-room)))
+        sym (move-settles (moved paper) made width blocks read refl (rw (front, log-room)))
 
     unmix-is : (width : ℕ) (blocks : List ℕ) → unmixCall made width blocks ≡ unlogged (return n width blocks setting log)
     unfolding unmixCall inverseCall
     unmix-is width blocks =
-        sym (move-settles (movedBack paper) made buffer room width blocks read refl {w = W n} refl (rw (front, log-room)))
+        sym (move-settles (movedBack paper) made width blocks read refl (rw (front, log-room)))
 
     fits : RoomToMove n log
     fits = omega (arith, log-room, switches-few n small)
@@ -101,7 +105,7 @@ module _ (n : ℕ) (order : List ℕ) (small : n ≤ 1024) (D : Demand2 n order)
     shows-so O out =
         let text = settingText n (take (W n) (overlay buffer 0 setting)) in
         let is : outcome (accepted (length text)) (overlay out 0 text) ≡ showCall made out =
-        show-done made buffer out room read refl {w = W n} refl (record { place = omega arith; buffer = refl }) refl
+        show-done made out read refl (record { place = omega arith; buffer = refl }) refl
         in
         sym is ∙ ap (λ t. outcome (accepted (length t)) (overlay out 0 t)) (text-is O)
 

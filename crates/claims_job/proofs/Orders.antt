@@ -9,16 +9,15 @@ use borrow.Author.Tests.{le-leb, eq-eqb}
 use lib.Dec.{leb, eqb}
 use lib.ListN.{length, getD, drop, List·getD-eq-default}
 use Rattle.answers.specs.Questions.{Question, ask, allYes, firstNo}
-use Rattle.answers.proofs.Questions.{asked-yes, asked-both}
+use Rattle.answers.proofs.Questions.{asked-yes, asked-both, BothPass, both-pass}
 use Rattle.permutation.specs.Permutations.{IsPermutation, firstBadEntry}
 use Rattle.permutation.proofs.Permutations.{permutation-passes}
-use Rattle.numbers.specs.Numbers.{numberQuestions}
-use Rattle.sheets.specs.Reading.{numbersQuestions, numbersAt, placePast}
-use Rattle.sheets.specs.Inner.{Fourteens}
-use Rattle.sheets.proofs.Rows.{Back, row-back}
-use Rattle.sheets.proofs.Asking.{BothPass, both-pass}
+use Rattle.numbers.specs.Numbers.{numberQuestions, sevens}
+use Rattle.rows.specs.Rows.{numbersQuestions, numbersAt, placePast, Fourteens}
+use Rattle.rows.proofs.Rows.{Back, row-back}
 use Rattle.cmd_order.specs.Orders.{countIn, entriesAt, orderIn, endOf, formQuestions, entryQuestions, orderQuestions}
 use Rattle.cmd_draw.specs.Draw.{orderBytes}
+use Rattle.numbers.proofs.Numbers.{number-back}
 use Rattle.claims_job.specs.Job.{Holds}
 
 module _ (n : ℕ) (order : List ℕ) (small : n ≤ 1024) (O : IsPermutation n order) where
@@ -30,9 +29,9 @@ module _ (n : ℕ) (order : List ℕ) (small : n ≤ 1024) (O : IsPermutation n 
       go (yes l) = omega (arith, O .below i l)
       go (no l) = rw (List·getD-eq-default order 0 {n = i} (omega (arith, O .whole))) (omega arith)
 
-  back : Back (orderBytes order) 0 (length order ∷ order) (0 + length (orderBytes order))
+  back : Back sevens (orderBytes order) 0 (length order ∷ order) (0 + length (orderBytes order))
   unfolding orderBytes
-  back = row-back (length order ∷ order) (orderBytes order) [] [] (sym (append-nil (orderBytes order))) entries-fit
+  back = row-back sevens number-back (length order ∷ order) (orderBytes order) [] [] (sym (append-nil (orderBytes order))) entries-fit
 
   count-back : countIn (orderBytes order) ≡ length order
   unfolding numbersAt
@@ -47,7 +46,7 @@ module _ (n : ℕ) (order : List ℕ) (small : n ≤ 1024) (O : IsPermutation n 
   end-back = rw count-back (back .place)
 
   abbrev row : ℕ → List Question
-  row k = numbersQuestions k (orderBytes order) (entriesAt (orderBytes order))
+  row k = numbersQuestions sevens k (orderBytes order) (entriesAt (orderBytes order))
 
   both : BothPass (numberQuestions (orderBytes order) 0) (row (length order))
   unfolding numbersQuestions

@@ -10,8 +10,8 @@ use Rattle.answers.specs.declared.Answer.{Answer}
 use Rattle.answers.specs.Questions.{Verdict, allYes, noAt}
 use Rattle.answers.specs.Outcomes.{Outcome, outcome, settled}
 use Rattle.answers.proofs.Buffers.{overlay-front}
-use Rattle.sheets.specs.Inner.{Put}
-use Rattle.sheets.proofs.Writing.{put-none}
+use Rattle.answers.specs.Buffers.{Put}
+use Rattle.answers.proofs.Putting.{put-none}
 use Rattle.cmd_lines.specs.Text.{refusalLine}
 use Rattle.cmd_console.specs.Streams.{outputOf, errorOf}
 

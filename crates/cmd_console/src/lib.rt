@@ -5,7 +5,7 @@ ghost use Prim.Native.Nat.{_≤_};
 ghost use lib.ListN.{length};
 ghost use Rattle.answers.specs.declared.Answer.{Answer};
 ghost use Rattle.io.specs.Counts.{Counts};
-ghost use Rattle.sheets.specs.Inner.{Put};
+ghost use Rattle.answers.specs.Buffers.{Put};
 ghost use Rattle.cmd_console.specs.Streams.{outputOf, errorOf};
 use answers::Answer;
 use libc::STDERR_FILENO;

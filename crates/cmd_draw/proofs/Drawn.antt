@@ -11,16 +11,15 @@ use lib.ListN.{length, getD, take, List·getD-eq-default}
 use Rattle.answers.specs.declared.Answer.{Answer}
 use Rattle.answers.specs.Answers.{refusal, accepted}
 use Rattle.answers.specs.Questions.{allYes, noAt, firstNo}
-use Rattle.answers.specs.Buffers.{overlay}
+use Rattle.answers.specs.Buffers.{overlay, Put}
 use Rattle.answers.specs.Outcomes.{Outcome, outcome}
-use Rattle.answers.proofs.Buffers.{overlay-read, overlay-front}
+use Rattle.answers.proofs.Buffers.{overlay-taken}
 use Rattle.answers.proofs.Outcomes.{ends-refused, ends-accepted}
 use Rattle.permutation.specs.Permutations.{IsPermutation, tabulate}
 use Rattle.permutation.proofs.Tables.{length-tabulate}
 use Rattle.shuffle.specs.Shuffled.{shuffled, shuffleCall}
 use Rattle.shuffle.proofs.Steps.{shuffled-permutation}
-use Rattle.sheets.specs.Inner.{Put}
-use Rattle.sheets.proofs.Writing.{put-length}
+use Rattle.answers.proofs.Putting.{put-length}
 use Rattle.cmd_draw.specs.Draw.{wordAt, wordsIn, bytesFor, orderBytes, drawQuestions, drawCall}
 
 pub wanted : (n : ℕ) → n ≤ 1024 → 4 * n ≡ bytesFor n
@@ -59,10 +58,7 @@ module _ (n : ℕ) (bytes out : List ℕ) where
 -- the words that were gathered, and the order that they make
 module _ (n : ℕ) (bytes : List ℕ) (few : n ≤ 1024) (count : length bytes / 4 ≡ n) where
   pub gathered : (before : List ℕ) {words : List ℕ} → words ≡ overlay before 0 (tabulate (wordAt bytes) n) → take n words ≡ wordsIn bytes
-  gathered before e =
-      let w = tabulate (wordAt bytes) n in
-      let long : n ≡ length w = sym (length-tabulate (wordAt bytes) n) in
-      rw e (ap (λ m. take m (overlay before 0 w)) long ∙ overlay-read before w ∙ ap (tabulate (wordAt bytes)) (sym count))
+  gathered before e = overlay-taken before e (length-tabulate (wordAt bytes) n) ∙ ap (tabulate (wordAt bytes)) (sym count)
 
   long : {words : List ℕ} → words ≡ wordsIn bytes → length words ≡ n
   long g = ap length g ∙ length-tabulate (wordAt bytes) (length bytes / 4) ∙ count
@@ -75,8 +71,7 @@ module _ (n : ℕ) (bytes : List ℕ) (few : n ≤ 1024) (count : length bytes /
         let there : order ≡ overlay before 0 (shuffled words) =
         ap (λ (o : Outcome). o .buffer) s ∙ rw (le-leb n 1024 few, eq-eqb (length words) n (long g), le-leb n (length before) room)
         in
-        let m : n ≡ length (shuffled words) = sym (P .whole ∙ long g) in
-        rw there (ap (λ k. take k (overlay before 0 (shuffled words))) m ∙ overlay-read before (shuffled words) ∙ ap shuffled g)
+        overlay-taken before there (P .whole ∙ long g) ∙ ap shuffled g
 
     pub entries-few : (i : ℕ) → getD (take n order) i 0 < 16384
     entries-few i = rw drawn (go (decLt i n))

@@ -9,7 +9,8 @@ use Rattle.answers.specs.Questions.{Question, ask, firstNo}
 use Rattle.answers.specs.Outcomes.{Outcome, settled}
 use Rattle.permutation.specs.Permutations.{tabulate}
 use Rattle.shuffle.specs.Shuffled.{shuffled}
-use Rattle.sheets.specs.Sheet.{numbersBytes}
+use Rattle.numbers.specs.Numbers.{sevens}
+use Rattle.rows.specs.Rows.{numbersBytes}
 
 -- word i: four bytes, the low byte first
 abbrev pub wordAt : List ℕ → ℕ → ℕ
@@ -26,7 +27,7 @@ bytesFor n = elim (leb n 1024) [ true ↦ 4 * n | false ↦ 0 ]
 
 -- the bytes of an order
 unfoldable pub orderBytes : List ℕ → List ℕ
-orderBytes order = numbersBytes (length order ∷ order)
+orderBytes order = numbersBytes sevens (length order ∷ order)
 
 -- 01's questions 1, 16; its 13 gets a yes always, since the output has room for every order
 unfoldable pub drawQuestions : ℕ → List ℕ → List Question

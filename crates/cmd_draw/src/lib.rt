@@ -1,12 +1,11 @@
 // An order drawn from random bytes, as the programs read it: what the program `draw` does with what it read.
 ghost use mathlib.Core.Path.{_≡_};
-ghost use Prim.Native.Nat.{ℕ, _+_, _*_, _≤_, _<_};
-ghost use lib.ListN.{length, getD};
-ghost use Rattle.answers.specs.Buffers.{overlay};
+ghost use Prim.Native.Nat.{_+_, _*_, _≤_, _<_};
+ghost use lib.ListN.{length};
+ghost use Rattle.answers.specs.Buffers.{overlay, Put};
 ghost use Rattle.answers.specs.Outcomes.{outcome};
 ghost use Rattle.permutation.specs.Permutations.{tabulate};
-ghost use Rattle.sheets.specs.Inner.{Put};
-ghost use Rattle.sheets.specs.Sheet.{numbersBytes};
+ghost use Rattle.rows.specs.Rows.{Fourteens};
 ghost use Rattle.cmd_draw.specs.Draw.{wordAt, bytesFor, orderBytes, drawCall};
 use answers::Answer;
 
@@ -65,28 +64,9 @@ fn wide(x: u8) -> u32
 // ---- the order's bytes
 
 fn put_order(order: &[u16], out: &mut [u8]) -> usize
-    requires { ⌜ (length (now order) ≤ 1024) × (2050 ≤ length (now out)) × ((i : ℕ) → getD (now order) i 0 < 16384) ⌝ }
+    requires { ⌜ (length (now order) ≤ 1024) × (2050 ≤ length (now out)) × Fourteens (now order) ⌝ }
     ensures { λ r. ⌜ Put (now (out .entry)) 0 (orderBytes (now (order .entry))) r (now (out .exit)) ⌝ }
 {
-    let at = sheets::put_number(out, 0, order.len());
-    put_entries(order, out, at)
-}
-
-fn put_entries(order: &[u16], out: &mut [u8], start: usize) -> usize
-    requires { ⌜ (start + 2 * length (now order) ≤ length (now out)) × ((i : ℕ) → getD (now order) i 0 < 16384) ⌝ }
-    ensures { λ r. ⌜ Put (now (out .entry)) start (numbersBytes (now (order .entry))) r (now (out .exit)) ⌝ }
-{
-    let mut at = start;
-    let mut j = 0;
-    while j < order.len() {
-        at = sheets::put_number(out, at, entry(order[j]));
-        j += 1;
-    }
-    at
-}
-
-fn entry(x: u16) -> usize
-    ensures { λ r. ⌜ r ≡ x ⌝ }
-{
-    x as usize
+    let at = numbers::put_number(out, 0, order.len());
+    rows::put_row(order, out, at)
 }

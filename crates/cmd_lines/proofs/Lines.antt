@@ -10,10 +10,9 @@ use lib.Dec.{eqb}
 use lib.ListN.{length, getD, take, set, length-append, length-set}
 use lib.Seq.{take-suc, take-all, length-take-le}
 use borrow.Author.Tests.{ne-eqb}
-use Rattle.answers.specs.Buffers.{overlay}
+use Rattle.answers.specs.Buffers.{overlay, Put}
 use Rattle.answers.proofs.Buffers.{overlay-none, overlay-one, overlay-more, overlay-length}
-use Rattle.sheets.specs.Inner.{Put}
-use Rattle.sheets.proofs.Writing.{put-then}
+use Rattle.answers.proofs.Putting.{put-then}
 use Rattle.cmd_lines.specs.Text.{text, decimal, character, characters, bitsText, line, refusalLine}
 use Rattle.cmd_lines.proofs.Decimal.{decimal-one, decimal-more, digits-few}
 

@@ -5,7 +5,7 @@ ghost use mathlib.Core.Path.{_≡_};
 ghost use mathlib.Core.List.{_++_};
 ghost use Prim.Native.Nat.{_+_, _≤_};
 ghost use lib.ListN.{length};
-ghost use Rattle.sheets.specs.Inner.{Put};
+ghost use Rattle.answers.specs.Buffers.{Put};
 ghost use Rattle.cmd_lines.specs.Text.{text, decimal, character, bitsText, line, refusalLine};
 use answers::Answer;
 

@@ -2,18 +2,14 @@
 -- Assumes nothing: these are definitions.
 use mathlib.Core.List.{List, _++_}
 use Prim.Native.Nat.{ℕ}
-use lib.ListN.{length, take}
+use lib.ListN.{length}
 use Rattle.answers.specs.Questions.{Question, firstNo}
 use Rattle.answers.specs.Outcomes.{Outcome, settled}
 use Rattle.counts.specs.Counts.{W}
+use Rattle.sheets.specs.Calls.{placesIn, readQuestions, settingIn}
 use Rattle.network.specs.Wiring.{paper}
 use Rattle.network.specs.Blocks.{moved, movedBack}
-use Rattle.sheets.specs.Calls.{placesIn, fourteensAt, bitsFrom, readQuestions}
 use Rattle.apply.specs.Calls.{applyQuestions}
-
--- the setting in a sheet
-unfoldable pub settingIn : List ℕ → List ℕ
-settingIn sheet = take (W (placesIn sheet)) (bitsFrom sheet (W (placesIn sheet)) (fourteensAt sheet))
 
 -- those of reading the sheet, into room for the longest setting; then those of moving blocks, with n and the bits from the
 -- sheet and room for the longest log

@@ -3,18 +3,17 @@ ghost use mathlib.Core.Path.{_≡_};
 ghost use Rattle.answers.specs.Outcomes.{outcome};
 ghost use Rattle.cmd_move.specs.Calls.{mixCall, unmixCall};
 use answers::Answer;
+use numbers::ReadNumber;
 
 // Forward (01: mix). The sheet is asked first, and then the blocks; nothing is written before.
 pub fn mix(sheet: &[u8], width: usize, blocks: &mut [u8]) -> Answer
     ensures { λ r. ⌜ outcome r (now (blocks .exit)) ≡ mixCall (now (sheet .entry)) width (now (blocks .entry)) ⌝ }
 {
     let mut bits = [0u8; 9217];
-    let read = sheets::read_sheet(sheet, &mut bits);
-    if read.number != 0 {
-        return read;
-    }
-    let n = read.count;
-    let w = counts::switches(n);
+    let read = sheet_reader::read_setting(sheet, &mut bits);
+    let ReadNumber::Number(n, w) = read else {
+        return numbers::answer(read);
+    };
     let mut log = [0u16; 27651];
     apply::apply(n, width, blocks, &bits[..w], &mut log)
 }
@@ -24,12 +23,10 @@ pub fn unmix(sheet: &[u8], width: usize, blocks: &mut [u8]) -> Answer
     ensures { λ r. ⌜ outcome r (now (blocks .exit)) ≡ unmixCall (now (sheet .entry)) width (now (blocks .entry)) ⌝ }
 {
     let mut bits = [0u8; 9217];
-    let read = sheets::read_sheet(sheet, &mut bits);
-    if read.number != 0 {
-        return read;
-    }
-    let n = read.count;
-    let w = counts::switches(n);
+    let read = sheet_reader::read_setting(sheet, &mut bits);
+    let ReadNumber::Number(n, w) = read else {
+        return numbers::answer(read);
+    };
     let mut log = [0u16; 27651];
     apply::apply_inverse(n, width, blocks, &bits[..w], &mut log)
 }

@@ -2,69 +2,26 @@
 -- Assumes nothing.
 use mathlib.Core.Path.{_≡_, refl, sym, ap, _∙_}
 use mathlib.Core.List.{List, [], _∷_, _++_}
-use Prim.Native.Nat.{ℕ, _+_, _-_, _≤_, _<_}
+use Prim.Native.Nat.{ℕ, _-_, _≤_, _<_}
 use native.Mathlib.Omega.{arith}
 use lib.Dec.{leb}
-use lib.ListN.{length, take, set}
+use lib.ListN.{length, take}
 use borrow.Author.Tests.{le-leb, lt-leb, leb-true}
 use Rattle.answers.specs.declared.Answer.{Answer}
-use Rattle.answers.specs.Questions.{Question, ask, allYes, noAt, firstNo}
+use Rattle.answers.specs.Questions.{Question, ask, allYes, firstNo}
 use Rattle.answers.specs.Outcomes.{outcome, settled}
-use Rattle.answers.proofs.Questions.{asked-yes, asked-no, asked-both, asked-first, passed}
-use Rattle.numbers.specs.Numbers.{numberQuestions, numberAt}
+use Rattle.answers.proofs.Questions.{asked-yes, asked-no, asked-both, asked-first, passed, both-pass}
+use Rattle.numbers.specs.Numbers.{numberQuestions, numberAt, sevens}
 use Rattle.numbers.specs.Reading.{meaning, answerOf}
 use Rattle.numbers.specs.declared.ReadNumber.{ReadNumber}
 use Rattle.numbers.specs.declared.ReadNumber.the-variants.{Number, Refused}
 use Rattle.numbers.proofs.Numbers.{Reads, refused, Got, got-number, got-refused}
-use Rattle.sheets.specs.Reading.{numbersQuestions, numbersAt, placePast}
-use Rattle.sheets.specs.Inner.{Row}
-use Rattle.sheets.proofs.Rows.{Reading, reading-starts, reading-more, reading-stops, reading-ends, numbers-length}
-use Rattle.sheets.proofs.Asking.{both-pass}
+use Rattle.rows.specs.Rows.{numbersQuestions, placePast, Row}
+use Rattle.rows.proofs.Reading.{RowOf, row-refused, row-stops}
+use Rattle.rows.proofs.Rows.{numbers-length}
 use Rattle.network.specs.Wiring.{paper}
 use Rattle.steps.specs.Setting.{settingFor}
 use Rattle.cmd_order.specs.Orders.{countIn, entriesAt, orderIn, endOf, formQuestions, entryQuestions, orderQuestions, Reported, reported, entriesLogged, setReport, orderReport}
-
--- ---- the entries in a row
-
--- what `read_entries` promises
-abbrev pub Entries : List ℕ → ℕ → ℕ → List ℕ → ReadNumber → Type 0
-Entries input start n order r =
-    Row (numbersQuestions n input start) n (placePast n input start) n (numbersAt n input start) order r
-
--- what its loop keeps: the place of the last number, which `Reading` speaks of, is not kept by the code
-abbrev pub Reads-on : List ℕ → ℕ → ℕ → List ℕ → List ℕ → ℕ → ℕ → Type 0
-Reads-on input start n before order at j = Reading input start n before order (placePast (j - 1) input start) at j
-
-never : {q p : ℕ} → noAt q p ≡ allYes → ⊥
-never {q} {p} e = let z : noAt q p ≡ allYes = e in let y : _≡_ {A = ℕ} 0 1 = cc in omega arith
-
-row-refused : {qs : List Question} {a b k q p : ℕ} {row values : List ℕ} {r : ReadNumber} → firstNo qs ≡ noAt q p → r ≡ Refused q p → Row qs a b k row values r
-row-refused e t = record { answer = rw (e, t); numbers = λ y. absurd (never (sym e ∙ y)) }
-
--- the verdict that a refused row gives
-row-stops : {qs : List Question} {a b k q p : ℕ} {row values : List ℕ} {r : ReadNumber} → r ≡ Refused q p → Row qs a b k row values r → firstNo qs ≡ noAt q p
-row-stops {qs} {a} {b} t R = got-refused (firstNo qs) a b (sym t ∙ R .answer)
-
-pub entries-start : (input : List ℕ) (start n : ℕ) (before : List ℕ) → Reads-on input start n before before start 0
-unfolding placePast
-entries-start input start n before = reading-starts input start n before
-
-module _ (input : List ℕ) (start n : ℕ) (before order : List ℕ) (at j : ℕ) (R : Reads-on input start n before order at j) where
-  pub entries-more : (v past : ℕ) → j < n → n ≤ length before → meaning (Number v past) ≡ numberAt input at
-      → Reads-on input start n before (set order j v) past (j + 1)
-  entries-more v past h g e =
-      let more = reading-more input start n before order (placePast (j - 1) input start) at j R v past h g e in
-      rw (more .from) at more
-
-  pub entries-stop : (q p : ℕ) (r : ReadNumber) → j < n → r ≡ Refused q p → meaning r ≡ numberAt input at → Entries input start n order r
-  entries-stop q p r h t e =
-      row-refused (row-stops t (reading-stops input start n before order (placePast (j - 1) input start) at j R q p r h t e)) t
-
-  pub entries-end : n ≤ j → Entries input start n order (Number n at)
-  entries-end h =
-      let all = reading-ends input start n before order (placePast (j - 1) input start) at j R h in
-      let G = got-number (firstNo (numbersQuestions n input start)) (placePast (n - 1) input start) (placePast n input start) (all .answer) in
-      record { answer = rw (G .asked, G .place); numbers = all .numbers }
 
 -- ---- the whole input
 
@@ -74,7 +31,7 @@ Order input order r = Row (formQuestions input) (countIn input) (endOf input) (c
 
 module _ (input : List ℕ) where
   entriesAsked : List Question
-  entriesAsked = numbersQuestions (countIn input) input (entriesAt input)
+  entriesAsked = numbersQuestions sevens (countIn input) input (entriesAt input)
 
   endAsked : List Question
   endAsked = ask 12 (endOf input) (leb (length input) (endOf input)) ∷ []
@@ -90,7 +47,7 @@ module _ (input : List ℕ) where
   count-stops {q = q} {p = p} t e =
       row-refused (ap firstNo whole ∙ asked-first (numberQuestions input 0) afterCount (refused input 0 q p (rw t at e))) t
 
-  module _ {n at : ℕ} (C : Reads input 0 n at) where
+  module _ {n at : ℕ} (C : Reads sevens input 0 n at) where
     counted : firstNo (formQuestions input) ≡ firstNo afterCount
     counted = ap firstNo whole ∙ asked-both (numberQuestions input 0) afterCount (C .asked)
 
@@ -99,12 +56,12 @@ module _ (input : List ℕ) where
     count-large h =
         row-refused (counted ∙ asked-no 1 0 (leb (countIn input) 1024) (entriesAsked ++ endAsked) (lt-leb (countIn input) 1024 (omega (arith, C .value)))) refl
 
-    module _ (h : n ≤ 1024) {order : List ℕ} {r : ReadNumber} (R : Entries input at n order r) where
+    module _ (h : n ≤ 1024) {order : List ℕ} {r : ReadNumber} (R : RowOf sevens input at n order r) where
       few : firstNo (formQuestions input) ≡ firstNo (entriesAsked ++ endAsked)
       unfolding afterCount
       few = counted ∙ asked-yes 1 0 (leb (countIn input) 1024) (entriesAsked ++ endAsked) (le-leb (countIn input) 1024 (omega (arith, C .value)))
 
-      there : Entries input (entriesAt input) (countIn input) order r
+      there : RowOf sevens input (entriesAt input) (countIn input) order r
       there = rw (C .value, C .next) R
 
       pub row-stop : {q p : ℕ} → r ≡ Refused q p → Order input order r
@@ -112,9 +69,9 @@ module _ (input : List ℕ) where
       row-stop t = row-refused (few ∙ asked-first entriesAsked endAsked (row-stops t there)) t
 
       module _ {m end : ℕ} (t : r ≡ Number m end) where
-        got : Got (firstNo entriesAsked) (countIn input) (endOf input) m end
+        got : Got (firstNo entriesAsked) (placePast sevens (countIn input - 1) input (entriesAt input)) (endOf input) m end
         unfolding entriesAsked
-        got = got-number (firstNo entriesAsked) (countIn input) (endOf input) (sym t ∙ there .answer)
+        got = got-number (firstNo entriesAsked) (placePast sevens (countIn input - 1) input (entriesAt input)) (endOf input) (sym t ∙ there .answer)
 
         read-all : firstNo (formQuestions input) ≡ firstNo endAsked
         read-all = few ∙ asked-both entriesAsked endAsked (got .asked)
@@ -126,13 +83,13 @@ module _ (input : List ℕ) where
             (read-all ∙ asked-no 12 (endOf input) (leb (length input) (endOf input)) [] (lt-leb (length input) (endOf input) (omega (arith, got .place))))
             (rw (got .place))
 
-        pub order-done : length input ≤ end → Order input order (Number m end)
+        pub order-done : length input ≤ end → Order input order (Number n end)
         unfolding entriesAsked endAsked
         order-done l =
             let all : firstNo (formQuestions input) ≡ allYes =
             read-all ∙ asked-yes 12 (endOf input) (leb (length input) (endOf input)) [] (le-leb (length input) (endOf input) (omega (arith, got .place)))
             in
-            record { answer = rw (all, got .value, got .place); numbers = λ y. there .numbers (got .asked) }
+            record { answer = rw (all, got .place, C .value); numbers = λ y. there .numbers (got .asked) }
 
 -- ---- the whole call: then question 6, and the setting
 
@@ -140,7 +97,7 @@ module _ (input : List ℕ) where
 pub places-small : (input : List ℕ) → firstNo (formQuestions input) ≡ allYes → countIn input ≤ 1024
 unfolding formQuestions
 places-small input e =
-    let rest : List Question = numbersQuestions (countIn input) input (entriesAt input) ++ (ask 12 (endOf input) (leb (length input) (endOf input)) ∷ []) in
+    let rest : List Question = numbersQuestions sevens (countIn input) input (entriesAt input) ++ (ask 12 (endOf input) (leb (length input) (endOf input)) ∷ []) in
     let count : List Question = ask 1 0 (leb (countIn input) 1024) ∷ rest in
     leb-true (countIn input) 1024 (passed 1 0 (leb (countIn input) 1024) rest (both-pass (numberQuestions input 0) count e .second) .here)
 
@@ -167,7 +124,7 @@ module _ (input buffer : List ℕ) {order : List ℕ} {read : ReadNumber} (R : O
     unfolding orderReport orderQuestions
     then-set e =
         let same : take n order ≡ orderIn input = rw (passes .value) (R .numbers (passes .asked)) in
-        let places : length (orderIn input) ≡ countIn input = numbers-length input (countIn input) (entriesAt input) in
+        let places : length (orderIn input) ≡ countIn input = numbers-length sevens input (countIn input) (entriesAt input) in
         e
         ∙ ap (λ o. setReport (entryQuestions o) (length o) o buffer) same
         ∙ ap (λ m. setReport (entryQuestions (orderIn input)) m (orderIn input) buffer) places

@@ -9,15 +9,14 @@ use lib.Seq.{take-at}
 use Rattle.answers.specs.declared.Answer.{Answer}
 use Rattle.answers.specs.Questions.{allYes, firstNo}
 use Rattle.answers.specs.Outcomes.{answerOf, bufferOf, Outcome, outcome}
-use Rattle.answers.proofs.Outcomes.{Numbered, accepted-when}
+use Rattle.answers.proofs.Outcomes.{Numbered, accepted-when, numbered-both}
 use Rattle.answers.proofs.Buffers.{overlay-front}
 use Rattle.counts.specs.Counts.{W, E}
-use Rattle.numbers.specs.Numbers.{numberQuestions}
+use Rattle.numbers.specs.Numbers.{numberQuestions, sevens}
 use Rattle.numbers.proofs.Numbers.{numbered}
-use Rattle.sheets.specs.Reading.{numbersQuestions}
-use Rattle.sheets.proofs.Rows.{numbers-length}
-use Rattle.sheets.proofs.Asking.{both-pass}
-use Rattle.sheets.proofs.Round.{numbered-both, numbered-row}
+use Rattle.rows.specs.Rows.{numbersQuestions}
+use Rattle.rows.proofs.Rows.{numbers-length, numbered-row}
+use Rattle.answers.proofs.Questions.{both-pass}
 use Rattle.network.specs.Wiring.{paper}
 use Rattle.steps.specs.Setting.{settingFor}
 use Rattle.cmd_order.specs.Orders.{countIn, entriesAt, orderIn, formQuestions, entryQuestions, orderQuestions, orderSetting, Reported, reported, entriesLogged, orderReport}
@@ -29,7 +28,7 @@ unfolding orderQuestions formQuestions
 order-numbered input =
     numbered-both (formQuestions input) (entryQuestions (orderIn input))
     (numbered-both (numberQuestions input 0) _ (numbered input 0)
-    (omega arith, numbered-both (numbersQuestions (countIn input) input (entriesAt input)) _ (numbered-row (countIn input) input (entriesAt input)) (omega arith, tt)))
+    (omega arith, numbered-both (numbersQuestions sevens (countIn input) input (entriesAt input)) _ (numbered-row sevens input (numbered input) (countIn input) (entriesAt input)) (omega arith, tt)))
     (omega arith, tt)
 
 -- the outcome without the entries, and the entries
@@ -64,7 +63,7 @@ order-accepted input before {a} {bits} O z =
     ap (λ (a : Answer). a .count) answered ∙ ap (λ v. answerOf v (countIn input) .count) yes
     in
     let long : length (settingFor paper order) ≡ W (a .count) =
-    setting-length order (both .second) ∙ ap W (numbers-length input (countIn input) (entriesAt input) ∙ sym places)
+    setting-length order (both .second) ∙ ap W (numbers-length sevens input (countIn input) (entriesAt input) ∙ sym places)
     in
     let front : bits ≡ settingFor paper order ++ drop (length (settingFor paper order)) before =
     ap (λ (o : Outcome). o .buffer) O ∙ ap (λ v. bufferOf v (settingFor paper order) before) yes ∙ overlay-front before (settingFor paper order)

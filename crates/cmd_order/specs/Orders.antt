@@ -10,8 +10,8 @@ use Rattle.counts.specs.Counts.{E}
 use Rattle.network.specs.Wiring.{paper}
 use Rattle.permutation.specs.Permutations.{goodEntry}
 use Rattle.steps.specs.Setting.{settingFor}
-use Rattle.numbers.specs.Numbers.{numberQuestions, numberAt}
-use Rattle.sheets.specs.Reading.{numbersQuestions, numbersAt, placePast}
+use Rattle.numbers.specs.Numbers.{numberQuestions, numberAt, sevens}
+use Rattle.rows.specs.Rows.{numbersQuestions, numbersAt, placePast}
 
 -- ---- what an input holds
 
@@ -22,11 +22,11 @@ abbrev pub entriesAt : List ℕ → ℕ
 entriesAt input = numberAt input 0 .next
 
 abbrev pub orderIn : List ℕ → List ℕ
-orderIn input = numbersAt (countIn input) input (entriesAt input)
+orderIn input = numbersAt sevens (countIn input) input (entriesAt input)
 
 -- the place after the last entry
 abbrev pub endOf : List ℕ → ℕ
-endOf input = placePast (countIn input) input (entriesAt input)
+endOf input = placePast sevens (countIn input) input (entriesAt input)
 
 -- ---- the questions: 8, 9, 1 for the count; 8, 9 for each entry; then 12, 6
 
@@ -35,7 +35,7 @@ unfoldable pub formQuestions : List ℕ → List Question
 formQuestions input =
     numberQuestions input 0
     ++ (ask 1 0 (leb (countIn input) 1024)
-    ∷ (numbersQuestions (countIn input) input (entriesAt input)
+    ∷ (numbersQuestions sevens (countIn input) input (entriesAt input)
     ++ (ask 12 (endOf input) (leb (length input) (endOf input))
     ∷ [])))
 

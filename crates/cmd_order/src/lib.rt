@@ -4,18 +4,8 @@ ghost use mathlib.Core.Path.{_≡_};
 ghost use Prim.Native.Nat.{_≤_};
 ghost use lib.ListN.{length};
 ghost use Rattle.answers.specs.Outcomes.{outcome};
-ghost use Rattle.sheets.specs.Inner.{Row};
-ghost use Rattle.sheets.specs.Reading.{numbersQuestions, numbersAt, placePast};
-ghost use Rattle.cmd_order.specs.Orders.{
-  countIn,
-  orderIn,
-  endOf,
-  formQuestions,
-  entryQuestions,
-  setReport,
-  reported,
-  orderReport,
-};
+ghost use Rattle.rows.specs.Rows.{Row};
+ghost use Rattle.cmd_order.specs.Orders.{countIn, orderIn, endOf, formQuestions, entryQuestions, setReport, reported, orderReport};
 use answers::Answer;
 use numbers::ReadNumber;
 
@@ -23,26 +13,6 @@ use numbers::ReadNumber;
 pub struct OrderSet {
     pub answer: Answer,
     pub entries: usize,
-}
-
-// The n entries from a place on, to the front of order: n with the place after them, or the refusal (8, 9).
-fn read_entries(input: &[u8], start: usize, n: usize, order: &mut [u16]) -> ReadNumber
-    requires { ⌜ n ≤ length (now order) ⌝ }
-    ensures { λ r. ⌜ Row (numbersQuestions n (now (input .entry)) start) n (placePast n (now (input .entry)) start)
-        n (numbersAt n (now (input .entry)) start) (now (order .exit)) r ⌝ }
-{
-    let mut at = start;
-    let mut j = 0;
-    while j < n {
-        let entry = numbers::read_number(input, at);
-        let ReadNumber::Number(v, past) = entry else {
-            return entry;
-        };
-        order[j] = v as u16;
-        at = past;
-        j += 1;
-    }
-    ReadNumber::Number(n, at)
 }
 
 // The count and its entries, and whether the input ends there: the count with the place after the last entry, or the
@@ -59,14 +29,14 @@ fn read_order(input: &[u8], order: &mut [u16]) -> ReadNumber
     if 1024 < n {
         return ReadNumber::Refused(1, 0);
     }
-    let entries = read_entries(input, at, n, order);
+    let entries = rows::read_row(input, at, n, order);
     let ReadNumber::Number(_, end) = entries else {
         return entries;
     };
     if end < input.len() {
         return ReadNumber::Refused(12, end);
     }
-    entries
+    ReadNumber::Number(n, end)
 }
 
 // Question 6, and the setting over the front of bits.

@@ -10,8 +10,8 @@ use native.Mathlib.Omega.{arith}
 use borrow.Author.Tests.{eq-eqb, ne-eqb, lt-ltb, le-ltb}
 use lib.Dec.{eqb}
 use lib.ListN.{length, getD, length-append}
-use Rattle.sheets.specs.Inner.{Put}
-use Rattle.sheets.proofs.Writing.{put-none, put-then}
+use Rattle.answers.specs.Buffers.{Put}
+use Rattle.answers.proofs.Putting.{put-none, put-then}
 use Rattle.network.proofs.Blocks.{block-ends}
 use Rattle.permutation.proofs.Tables.{length-tabulate}
 use Rattle.cmd_lines.specs.Text.{text, character}

@@ -4,8 +4,8 @@ ghost use Prim.Native.Nat.{_+_, _*_, _≤_, _<_};
 ghost use lib.ListN.{length};
 ghost use Rattle.bits.specs.Bits.{Bits};
 ghost use Rattle.counts.specs.Counts.{W};
+ghost use Rattle.answers.specs.Buffers.{Put};
 ghost use Rattle.network.specs.Log.{entryWords};
-ghost use Rattle.sheets.specs.Inner.{Put};
 ghost use Rattle.cmd_picture.specs.Picture.{mark, highDigit, label, picture};
 ghost use Rattle.cmd_picture.specs.Inner.{columnsIn, rowIn, rowsIn};
 

@@ -13,7 +13,7 @@ use Rattle.steps.specs.Steps.{step1, step2, step3, step4, step5, step6}
 use Rattle.steps.specs.Sequence.{rounds, inputEntries, entriesOf, setEntries}
 use Rattle.steps.specs.Run.{subnetworks, runEntry, runEntries, runSet}
 use Rattle.numbers.specs.Numbers.{numberQuestions, numberAt}
-use Rattle.sheets.specs.Reading.{numbersQuestions, numbersAt, placePast}
+use Rattle.rows.specs.Rows.{numbersQuestions, numbersAt, placePast}
 use Rattle.cmd_order.specs.Orders.{formQuestions, orderQuestions}
 use Rattle.cmd_lines.specs.Text.{text, digits, decimal, characters, bitsText, refusalLine}
 use Rattle.cmd_settings.specs.Settings.{settingLines, settingsText}

@@ -12,10 +12,9 @@ use lib.ListN.{length, take}
 use lib.Seq.{length-take-le, take-all, getD-take}
 use borrow.Author.Tests.{lt-ltb, le-leb, lt-leb, leb-true}
 use Rattle.answers.specs.Questions.{Question, ask, Verdict, allYes, noAt, firstNo}
-use Rattle.answers.proofs.Questions.{asked-yes, asked-no, asked-both, asked-first, passed}
-use Rattle.numbers.specs.Numbers.{byteAt, oneByte, ends, numberQuestions, NumberAnswer, valueAt, placeAfter, numberAt}
-use Rattle.sheets.specs.Reading.{numbersQuestions, placePast}
-use Rattle.sheets.proofs.Asking.{both-pass}
+use Rattle.answers.proofs.Questions.{asked-yes, asked-no, asked-both, asked-first, passed, both-pass}
+use Rattle.numbers.specs.Numbers.{byteAt, oneByte, ends, numberQuestions, NumberAnswer, valueAt, placeAfter, numberAt, sevens}
+use Rattle.rows.specs.Rows.{numbersQuestions, placePast}
 use Rattle.cmd_order.specs.Orders.{countIn, entriesAt, orderIn, endOf, formQuestions, entryQuestions, orderQuestions}
 use Rattle.cmd_order.proofs.Asking.{places-small}
 use Rattle.cmd_settings.specs.Settings.{settingsText}
@@ -43,7 +42,7 @@ place-near input at = go (firstNo (numberQuestions input at)) refl
     go allYes t = rw t (after (oneByte input at) refl)
     go (noAt q p) t = rw t (omega arith)
 
-row-near : (input : List ℕ) (k at : ℕ) → placePast k input at ≤ at + 2 * k
+row-near : (input : List ℕ) (k at : ℕ) → placePast sevens k input at ≤ at + 2 * k
 unfolding placePast
 row-near input zero at = omega arith
 row-near input (suc k) at = omega (arith, place-near input at, row-near input k (numberAt input at .next))
@@ -90,7 +89,7 @@ module _ (input : List ℕ) (m : ℕ) (long : m ≤ length input) where
   next-alike : (at : ℕ) → at + 1 < m → numberAt (take m input) at .next ≡ numberAt input at .next
   next-alike at h = ap (λ (a : NumberAnswer). a .next) (read-alike at h)
 
-  row-asked : (k at : ℕ) → at + 2 * k ≤ m → firstNo (numbersQuestions k (take m input) at) ≡ firstNo (numbersQuestions k input at)
+  row-asked : (k at : ℕ) → at + 2 * k ≤ m → firstNo (numbersQuestions sevens k (take m input) at) ≡ firstNo (numbersQuestions sevens k input at)
   unfolding numbersQuestions
   row-asked zero at h = refl
   row-asked (suc k) at h =
@@ -98,7 +97,7 @@ module _ (input : List ℕ) (m : ℕ) (long : m ≤ length input) where
       (both (numberQuestions (take m input) at) (numberQuestions input at) _ _ (asked-alike at (omega arith))
       (row-asked k (numberAt input at .next) (omega (arith, place-near input at))))
 
-  row-place : (k at : ℕ) → at + 2 * k ≤ m → placePast k (take m input) at ≡ placePast k input at
+  row-place : (k at : ℕ) → at + 2 * k ≤ m → placePast sevens k (take m input) at ≡ placePast sevens k input at
   unfolding placePast
   row-place zero at h = refl
   row-place (suc k) at h =
@@ -110,7 +109,7 @@ endAsked : List ℕ → List Question
 endAsked input = ask 12 (endOf input) (leb (length input) (endOf input)) ∷ []
 
 rowAsked : List ℕ → List Question
-rowAsked input = numbersQuestions (countIn input) input (entriesAt input)
+rowAsked input = numbersQuestions sevens (countIn input) input (entriesAt input)
 
 sizeAsked : List ℕ → List Question
 sizeAsked input = ask 1 0 (leb (countIn input) 1024) ∷ (rowAsked input ++ endAsked input)

@@ -11,8 +11,8 @@ use Rattle.answers.specs.Questions.{Verdict, allYes, noAt, firstNo}
 use Rattle.answers.specs.Outcomes.{answerOf, bufferOf, Outcome, outcome}
 use Rattle.answers.proofs.Buffers.{overlay-front}
 use Rattle.counts.specs.Counts.{W, E}
-use Rattle.sheets.specs.Inner.{Put}
-use Rattle.sheets.proofs.Writing.{put-length}
+use Rattle.answers.specs.Buffers.{Put}
+use Rattle.answers.proofs.Putting.{put-length}
 use Rattle.cmd_lines.specs.Text.{decimal, refusalLine}
 use Rattle.cmd_lines.proofs.Decimal.{digits-few}
 use Rattle.cmd_lines.proofs.Lines.{bits-within}

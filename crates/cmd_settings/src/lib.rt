@@ -2,7 +2,7 @@
 ghost use mathlib.Core.Path.{_≡_};
 ghost use Prim.Native.Nat.{_≤_};
 ghost use lib.ListN.{length};
-ghost use Rattle.sheets.specs.Inner.{Put};
+ghost use Rattle.answers.specs.Buffers.{Put};
 ghost use Rattle.cmd_settings.specs.Settings.{settingLines, written, settingsCall};
 
 // The three lines of an accepted input, over the front of out.

@@ -13,7 +13,7 @@ use Rattle.answers.specs.declared.Answer.{Answer}
 use Rattle.answers.specs.Answers.{refusal}
 use Rattle.answers.specs.Questions.{Verdict, allYes, noAt, firstNo}
 use Rattle.answers.specs.Outcomes.{answerOf, Outcome, outcome}
-use Rattle.answers.proofs.Questions.{passed}
+use Rattle.answers.proofs.Questions.{passed, both-pass}
 use Rattle.answers.proofs.Outcomes.{ends-refused, ends-accepted}
 use Rattle.bits.specs.Bits.{Bits}
 use Rattle.counts.specs.Counts.{W}
@@ -25,7 +25,6 @@ use Rattle.canonical.proofs.Only.{canonical-bits}
 use Rattle.steps_canonical.proofs.Whole.{setting-canonical}
 use Rattle.sheets.specs.Sheet.{sheet}
 use Rattle.sheets.specs.Calls.{writeSheet}
-use Rattle.sheets.proofs.Asking.{both-pass}
 use Rattle.sheets.proofs.Round.{Writable, write-accepts}
 use Rattle.sheets.proofs.Writing.{sheet-length}
 use Rattle.steps.specs.Setting.{settingFor}

@@ -16,5 +16,5 @@ pub fn order_sheet(input: &[u8], out: &mut [u8; 1321]) -> Answer
     }
     let n = read.count;
     let w = counts::switches(n);
-    sheets::write_sheet(n, &bits[..w], out)
+    sheet_writer::write_sheet(n, &bits[..w], out)
 }

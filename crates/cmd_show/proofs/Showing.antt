@@ -3,35 +3,30 @@
 use mathlib.Core.Path.{_≡_, refl, sym, ap, _∙_}
 use mathlib.Core.List.{List, [], _∷_, _++_}
 use Prim.Native.Nat.{ℕ, _+_, _*_, _/_, _^_, _%_, _≤_, _<_}
-use native.Mathlib.Nat.{mod-lt}
 use native.Mathlib.Omega.{arith}
-use native.Mathlib.Decide.{decLt}
-use lib.ListN.{length, getD, take, length-append, List·getD-eq-default}
+use lib.ListN.{length, take, length-append}
 use lib.Seq.{length-take-le}
 use Rattle.answers.specs.declared.Answer.{Answer}
-use Rattle.answers.specs.Answers.{refusal, accepted}
-use Rattle.answers.specs.Questions.{allYes, noAt, firstNo}
-use Rattle.answers.specs.Buffers.{overlay}
-use Rattle.answers.specs.Outcomes.{Outcome, outcome}
+use Rattle.answers.specs.Answers.{accepted}
+use Rattle.answers.specs.Questions.{firstNo}
+use Rattle.answers.specs.Buffers.{overlay, Put}
+use Rattle.answers.specs.Outcomes.{outcome}
 use Rattle.answers.proofs.Buffers.{overlay-read, overlay-length}
 use Rattle.answers.proofs.Outcomes.{ends-refused, ends-accepted}
-use Rattle.bits.specs.Bits.{Bits}
-use Rattle.counts.specs.Counts.{W}
 use Rattle.network.specs.Wiring.{paper}
 use Rattle.network.specs.Blocks.{orderOf}
 use Rattle.network.proofs.Paper.{paper-lawful}
 use Rattle.network.proofs.Order.{length-order}
-use Rattle.sheets.specs.Sheet.{numbersFor}
-use Rattle.sheets.specs.Reading.{numbersAt, bitsIn}
-use Rattle.sheets.specs.Calls.{placesIn, fourteensAt, bitsFrom, readQuestions, readSheet}
-use Rattle.sheets.specs.Inner.{Put}
-use Rattle.sheets.proofs.Unpacking.{bits-length, bit-at, bits-take}
-use Rattle.sheets.proofs.Writing.{put-then, put-length}
+use Rattle.sheets.specs.Calls.{placesIn, readQuestions, settingIn, SettingRead}
+use Rattle.answers.proofs.Putting.{put-then, put-length}
 use Rattle.cmd_lines.specs.Text.{text, decimal, bitsText, line}
 use Rattle.cmd_lines.proofs.Decimal.{digits-few}
 use Rattle.cmd_lines.proofs.Lines.{put-kept, bits-within}
-use Rattle.cmd_move.specs.Calls.{settingIn}
-use Rattle.cmd_move.proofs.Moving.{Stopped, read-stopped, read-passed, read-places, read-few, read-setting, setting-length}
+use Rattle.numbers.specs.Reading.{answerOf}
+use Rattle.numbers.specs.declared.ReadNumber.{ReadNumber}
+use Rattle.numbers.specs.declared.ReadNumber.the-variants.{Number, Refused}
+use Rattle.rows.proofs.Reading.{row-stops}
+use Rattle.sheets.proofs.Setting.{setting-got, setting-there}
 use Rattle.cmd_show.specs.Show.{orderText, pictured, settingText, showCall}
 
 -- ---- the lines
@@ -91,40 +86,16 @@ setting-put {a} n bits h g l P Q R =
 
 -- ---- the call
 
--- the bits in numbers are bits, and so is the setting in a sheet
-are-bits : (vs : List ℕ) → Bits (bitsIn vs)
-unfolding Bits
-are-bits vs i = elim (decLt i (14 * length vs)) [
-  | yes l ↦ rw (bit-at vs i l) (mod-lt _ (omega arith))
-  | no l ↦ rw (List·getD-eq-default (bitsIn vs) 0 {n = i} (omega (arith, bits-length vs))) (omega arith)
-]
+module _ (sheet out : List ℕ) {bits : List ℕ} {read : ReadNumber} (R : SettingRead sheet bits read) {a : Answer} where
+  pub show-refused : {q p : ℕ} → read ≡ Refused q p → a ≡ answerOf read → outcome a out ≡ showCall sheet out
+  unfolding showCall
+  show-refused t e = ends-refused (firstNo (readQuestions sheet 9217)) _ _ out (row-stops t R) (e ∙ ap answerOf t) refl
 
-setting-bits : (sheet : List ℕ) → Bits (settingIn sheet)
-unfolding settingIn bitsFrom
-setting-bits sheet = bits-take (W (placesIn sheet)) _ (are-bits (numbersAt (numbersFor (W (placesIn sheet))) sheet (fourteensAt sheet)))
-
-module _ (sheet before out : List ℕ) (room : length before ≡ 9217) {read : Answer} {bits : List ℕ} (e : outcome read bits ≡ readSheet sheet before) where
-  pub show-refused : (read .number ≡ 0 → ⊥) → outcome read out ≡ showCall sheet out
-  unfolding showCall readSheet
-  show-refused h =
-      let s = read-stopped sheet before e h in
-      let first : firstNo (readQuestions sheet 9217) ≡ noAt (s .question) (s .place) = rw (← room) (s .asked) in
-      let told : read ≡ refusal (s .question) (s .place) = ap (λ (o : Outcome). o .answer) e ∙ rw (s .asked) in
-      ends-refused (firstNo (readQuestions sheet 9217)) _ _ out first told refl
-
-  module _ (z : read .number ≡ 0) {w : ℕ} (c : w ≡ W (read .count)) where
-    pub read-count : length (take w bits) ≡ W (read .count)
-    read-count = ap length (read-setting sheet before e z c) ∙ setting-length sheet ∙ sym (ap W (read-places sheet before e z))
-
-    pub read-bits : Bits (take w bits)
-    read-bits = rw (read-setting sheet before e z c) (setting-bits sheet)
-
-    pub show-done : {r : ℕ} {after : List ℕ} {a : Answer} → Put out 0 (settingText (read .count) (take w bits)) r after → a ≡ accepted r
-        → outcome a after ≡ showCall sheet out
-    unfolding showCall
-    show-done P t =
-        let same : settingText (read .count) (take w bits) ≡ settingText (placesIn sheet) (settingIn sheet) =
-        rw (read-setting sheet before e z c, read-places sheet before e z)
-        in
-        ends-accepted (firstNo (readQuestions sheet 9217)) _ _ out (rw (← room) (read-passed sheet before e z))
-        (t ∙ ap accepted (put-length P ∙ ap length same)) (P .buffer ∙ ap (overlay out 0) same)
+  pub show-done : {n w r : ℕ} {after : List ℕ} → read ≡ Number n w → Put out 0 (settingText n (take w bits)) r after → a ≡ accepted r
+      → outcome a after ≡ showCall sheet out
+  unfolding showCall
+  show-done {n} {w} t P e =
+      let G = setting-got sheet R t in
+      let same : settingText n (take w bits) ≡ settingText (placesIn sheet) (settingIn sheet) = rw (setting-there sheet R t, G .value) in
+      ends-accepted (firstNo (readQuestions sheet 9217)) _ _ out (G .asked)
+      (e ∙ ap accepted (put-length P ∙ ap length same)) (P .buffer ∙ ap (overlay out 0) same)

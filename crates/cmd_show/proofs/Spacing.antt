@@ -8,8 +8,8 @@ use native.Mathlib.Omega.{arith}
 use borrow.Author.Tests.{le-leb, lt-leb}
 use lib.ListN.{length, getD, take, length-append}
 use lib.Seq.{take-suc, take-all}
-use Rattle.sheets.specs.Inner.{Put}
-use Rattle.sheets.proofs.Writing.{put-none, put-then}
+use Rattle.answers.specs.Buffers.{Put}
+use Rattle.answers.proofs.Putting.{put-none, put-then}
 use Rattle.cmd_lines.specs.Text.{text, decimal}
 use Rattle.cmd_lines.proofs.Decimal.{digits-few}
 use Rattle.cmd_picture.specs.Picture.{picture}

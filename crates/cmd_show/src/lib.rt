@@ -8,22 +8,21 @@ ghost use Rattle.bits.specs.Bits.{Bits};
 ghost use Rattle.counts.specs.Counts.{W};
 ghost use Rattle.network.specs.Wiring.{paper};
 ghost use Rattle.network.specs.Blocks.{orderOf};
-ghost use Rattle.sheets.specs.Inner.{Put};
+ghost use Rattle.answers.specs.Buffers.{Put};
 ghost use Rattle.cmd_lines.specs.Text.{text, decimal, line};
 ghost use Rattle.cmd_show.specs.Show.{spaced, orderText, pictured, settingText, showCall};
 use answers::Answer;
+use numbers::ReadNumber;
 
 // The text over the front of out: 16,384 bytes are enough for each sheet.
 pub fn show_sheet(sheet: &[u8], out: &mut [u8; 16384]) -> Answer
     ensures { λ r. ⌜ outcome r (now (out .exit)) ≡ showCall (now (sheet .entry)) (now (out .entry)) ⌝ }
 {
     let mut bits = [0u8; 9217];
-    let read = sheets::read_sheet(sheet, &mut bits);
-    if read.number != 0 {
-        return read;
-    }
-    let n = read.count;
-    let w = counts::switches(n);
+    let read = sheet_reader::read_setting(sheet, &mut bits);
+    let ReadNumber::Number(n, w) = read else {
+        return numbers::answer(read);
+    };
     answers::accept(put_setting(out, n, &bits[..w]))
 }
 

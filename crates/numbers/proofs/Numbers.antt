@@ -15,7 +15,7 @@ use Rattle.answers.specs.Questions.{Question, ask, Verdict, allYes, noAt, first
 use Rattle.answers.specs.Outcomes.{answerOf}
 use Rattle.answers.proofs.Questions.{passed}
 use Rattle.answers.proofs.Outcomes.{Numbered, accepted-when}
-use Rattle.numbers.specs.Numbers.{numberBytes, byteAt, oneByte, ends, numberQuestions, valueAt, placeAfter, NumberAnswer, numberAnswer, numberAt}
+use Rattle.numbers.specs.Numbers.{numberBytes, byteAt, oneByte, ends, numberQuestions, valueAt, placeAfter, NumberAnswer, numberAnswer, numberAt, NumberForm, sevens}
 use Rattle.numbers.specs.Reading.{meaning, readOf}
 use Rattle.numbers.specs.declared.ReadNumber.{ReadNumber}
 use Rattle.numbers.specs.declared.ReadNumber.the-variants.{Number, Refused}
@@ -96,11 +96,11 @@ pub numbered : (input : List ℕ) (at : ℕ) → Numbered (numberQuestions input
 unfolding numberQuestions
 numbered input at = (omega arith, (omega arith, (omega arith, tt)))
 
--- what is read where a number is read: every question gets a yes, and these are the number and the place after it
-pub record Reads (input : List ℕ) (at v p : ℕ) : Type 0 where
-  pub asked : firstNo (numberQuestions input at) ≡ allYes
-  pub value : numberAt input at .value ≡ v
-  pub next : numberAt input at .next ≡ p
+-- what is read where a number of a form is read: every question gets a yes, and these are the number and the place after it
+pub record Reads (form : NumberForm) (input : List ℕ) (at v p : ℕ) : Type 0 where
+  pub asked : firstNo (form .questions input at) ≡ allYes
+  pub value : form .read input at .value ≡ v
+  pub next : form .read input at .next ≡ p
 
 module _ (input : List ℕ) (at : ℕ) where
   past : 0 < placeAfter input at
@@ -110,11 +110,11 @@ module _ (input : List ℕ) (at : ℕ) where
       go true t = omega (arith, short-place input at t)
       go false t = omega (arith, long-place input at t)
 
-  pub reads : (v p : ℕ) → meaning (Number v p) ≡ numberAt input at → Reads input at v p
+  pub reads : (v p : ℕ) → meaning (Number v p) ≡ numberAt input at → Reads sevens input at v p
   unfolding numberAt
   reads v p e = go (firstNo (numberQuestions input at)) refl
     where
-      go : (w : Verdict) → firstNo (numberQuestions input at) ≡ w → Reads input at v p
+      go : (w : Verdict) → firstNo (numberQuestions input at) ≡ w → Reads sevens input at v p
       go allYes t = record { asked = t; value = sym (ap (λ (a : NumberAnswer). a .value) e); next = sym (ap (λ (a : NumberAnswer). a .next) e) }
       go (noAt n m) t =
           let z : 0 ≡ n = ap (λ (a : NumberAnswer). a .answer .number) e ∙ rw t in
@@ -168,13 +168,20 @@ bytes-few v = go (decLt v 128)
     go (yes l) = rw (bytes-one v l) (omega arith, omega arith)
     go (no l) = rw (bytes-two v (omega arith)) (omega arith, omega arith)
 
+-- .. in a form: a number of fourteen bits, with whatever stands before and behind it
+abbrev pub ReadBack : NumberForm → Type 0
+ReadBack form =
+    (xs ys : List ℕ) (v : ℕ)
+    → v < 16384
+    → Reads form (xs ++ (form .bytes v ++ ys)) (length xs) v (length xs + length (form .bytes v))
+
 pub number-back :
     (xs ys : List ℕ) (v : ℕ)
     → v < 16384
-    → Reads (xs ++ (numberBytes v ++ ys)) (length xs) v (length xs + length (numberBytes v))
+    → Reads sevens (xs ++ (numberBytes v ++ ys)) (length xs) v (length xs + length (numberBytes v))
 number-back xs ys v h = go (decLt v 128)
   where
-    go : Dec (v < 128) → Reads (xs ++ (numberBytes v ++ ys)) (length xs) v (length xs + length (numberBytes v))
+    go : Dec (v < 128) → Reads sevens (xs ++ (numberBytes v ++ ys)) (length xs) v (length xs + length (numberBytes v))
     go (yes l) =
         rw (bytes-one v l)
         (reads (xs ++ v ∷ ys) (length xs) v (length xs + 1)

@@ -58,3 +58,14 @@ numberAnswer (noAt q p) v n = record { answer = refusal q p; value = 0; next = 0
 -- what reading a number at a place comes to
 unfoldable pub numberAt : List ℕ → ℕ → NumberAnswer
 numberAt input at = numberAnswer (firstNo (numberQuestions input at)) (valueAt input at) (placeAfter input at)
+
+-- ---- a form of numbers: the bytes of one, the questions on reading it at a place of an input, what reading it comes to
+
+pub record NumberForm : Type 0 where
+  pub bytes : ℕ → List ℕ
+  pub questions : List ℕ → ℕ → List Question
+  pub read : List ℕ → ℕ → NumberAnswer
+
+-- groups of seven bits, one or two bytes
+abbrev pub sevens : NumberForm
+sevens = record { bytes = numberBytes; questions = numberQuestions; read = numberAt }

@@ -1,7 +1,9 @@
-// The number reader: a number in one or two bytes, at a place of an input.
+// The number reader: a number in one or two bytes, at a place of an input; and the writer of one number.
 ghost use mathlib.Core.Path.{_≡_};
+ghost use Prim.Native.Nat.{_+_, _≤_, _<_};
 ghost use lib.ListN.{length};
-ghost use Rattle.numbers.specs.Numbers.{numberAt};
+ghost use Rattle.answers.specs.Buffers.{Put};
+ghost use Rattle.numbers.specs.Numbers.{numberBytes, numberAt};
 ghost use Rattle.numbers.specs.Reading.{meaning, answerOf};
 
 // A number with the place after it, or a refusal: the question and the place of its no.
@@ -57,6 +59,22 @@ pub fn answer(r: ReadNumber) -> answers::Answer
         ReadNumber::Number(_, _) => answers::accept(0),
         ReadNumber::Refused(question, place) => answers::refuse(question, place),
     }
+}
+
+// A number's bytes, at a place of buf. The answer is the place after them. Public for the crates that write numbers, and so
+// with a `requires` of its own.
+pub fn put_number(buf: &mut [u8], at: usize, v: usize) -> usize
+    requires { ⌜ (v < 16384) × (at + 2 ≤ length (now buf)) ⌝ }
+    ensures { λ r. ⌜ Put (now (buf .entry)) at (numberBytes v) r (now (buf .exit)) ⌝ }
+{
+    if v < 128 {
+        buf[at] = v as u8;
+        return at + 1;
+    }
+    let second = at + 1;
+    buf[at] = (v % 128 + 128) as u8;
+    buf[second] = (v / 128) as u8;
+    at + 2
 }
 
 // A read of a slice asks only for the index, where a cast of it would ask too that the byte fits.

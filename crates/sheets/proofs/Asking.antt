@@ -9,32 +9,18 @@ use lib.Dec.{leb, eqb}
 use lib.ListN.{length, take, drop}
 use borrow.Author.Tests.{le-leb, lt-leb, eq-eqb, ne-eqb, leb-true}
 use Rattle.answers.specs.Questions.{Question, ask, Verdict, allYes, noAt, firstNo}
-use Rattle.answers.proofs.Questions.{asked-yes, asked-no, asked-both, asked-first, passed}
+use Rattle.answers.proofs.Questions.{asked-yes, asked-no, asked-both, asked-first, passed, both-pass}
 use Rattle.counts.specs.Counts.{W}
-use Rattle.numbers.specs.Numbers.{numberQuestions, numberAt}
+use Rattle.numbers.specs.Numbers.{numberQuestions, numberAt, sevens}
 use Rattle.numbers.specs.Reading.{meaning, readOf}
 use Rattle.numbers.specs.declared.ReadNumber.{ReadNumber}
 use Rattle.numbers.specs.declared.ReadNumber.the-variants.{Number, Refused}
 use Rattle.numbers.proofs.Numbers.{Reads, refused, Got, got-number, got-refused}
+use Rattle.rows.specs.Rows.{numbersQuestions, numbersAt, placePast, Row}
+use Rattle.rows.proofs.Reading.{row-refused, RowOf}
 use Rattle.sheets.specs.Sheet.{numbersFor}
-use Rattle.sheets.specs.Reading.{numbersQuestions, numbersAt, placePast, bitsIn, allZero}
+use Rattle.sheets.specs.Reading.{bitsIn, allZero}
 use Rattle.sheets.specs.Calls.{formIn, placesAt, placesIn, fourteensAt, headQuestions, bodyQuestions, bitsFrom}
-use Rattle.sheets.specs.Inner.{Row}
-
--- both of two sequences pass where the two together do
-pub record BothPass (qs rs : List Question) : Type 0 where
-  pub first : firstNo qs ≡ allYes
-  pub second : firstNo rs ≡ allYes
-
-never : {q p : ℕ} → noAt q p ≡ allYes → ⊥
-never {q} {p} e = let z : noAt q p ≡ allYes = e in let y : _≡_ {A = ℕ} 0 1 = cc in omega arith
-
-pub both-pass : (qs rs : List Question) → firstNo (qs ++ rs) ≡ allYes → BothPass qs rs
-both-pass qs rs e = go (firstNo qs) refl
-  where
-    go : (w : Verdict) → firstNo qs ≡ w → BothPass qs rs
-    go allYes t = record { first = t; second = sym (asked-both qs rs t) ∙ e }
-    go (noAt q p) t = absurd (never (sym (asked-first qs rs t) ∙ e))
 
 -- ---- the form, n, and room for the bits
 
@@ -59,7 +45,7 @@ module _ (input : List ℕ) (room : ℕ) where
   form-stops {q = q} {p = p} t e =
       head-is (noAt q p) (ap firstNo whole ∙ asked-first (numberQuestions input 0) (ask 10 0 (eqb (formIn input) 1) ∷ afterForm) (refused input 0 q p (rw t at e))) t
 
-  module _ {v at : ℕ} (F : Reads input 0 v at) where
+  module _ {v at : ℕ} (F : Reads sevens input 0 v at) where
     formed : firstNo (headQuestions input room) ≡ firstNo (ask 10 0 (eqb (formIn input) 1) ∷ afterForm)
     formed = ap firstNo whole ∙ asked-both (numberQuestions input 0) (ask 10 0 (eqb (formIn input) 1) ∷ afterForm) (F .asked)
 
@@ -77,7 +63,7 @@ module _ (input : List ℕ) (room : ℕ) where
           let there : meaning (Refused q p) ≡ numberAt input (placesAt input) = rw (t, ← F .next) at e in
           head-is (noAt q p) (form-right ∙ asked-first (numberQuestions input (placesAt input)) size (refused input (placesAt input) q p there)) t
 
-      module _ {n next : ℕ} (N : Reads input at n next) where
+      module _ {n next : ℕ} (N : Reads sevens input at n next) where
         places-value : placesIn input ≡ n
         places-value = ap (λ p. numberAt input p .value) (F .next) ∙ N .value
 
@@ -119,46 +105,38 @@ module _ (input : List ℕ) (room : ℕ) where
 
 -- ---- the numbers, the fill bits, the end
 
-row-refused : {qs : List Question} {a b k q p : ℕ} {row values : List ℕ} {r : ReadNumber} → firstNo qs ≡ noAt q p → r ≡ Refused q p → Row qs a b k row values r
-row-refused e t = record { answer = rw (e, t); numbers = λ y. absurd (never (sym e ∙ y)) }
-
--- what `read_row` and `read_body` promise
-abbrev RowOf : List ℕ → ℕ → ℕ → List ℕ → ReadNumber → Type 0
-RowOf input w at values r =
-    Row (numbersQuestions (numbersFor w) input at) (placePast (numbersFor w - 1) input at) (placePast (numbersFor w) input at)
-    (numbersFor w) (numbersAt (numbersFor w) input at) values r
-
+-- what `read_body` promises
 abbrev BodyOf : List ℕ → ℕ → ℕ → List ℕ → ReadNumber → Type 0
 BodyOf input w at values r =
-    Row (bodyQuestions input w at) (numbersFor w) (placePast (numbersFor w) input at) (numbersFor w) (numbersAt (numbersFor w) input at) values r
+    Row (bodyQuestions input w at) (numbersFor w) (placePast sevens (numbersFor w) input at) (numbersFor w) (numbersAt sevens (numbersFor w) input at) values r
 
 module _ (input : List ℕ) (w at : ℕ) where
   fillAsked : Question
-  fillAsked = ask 11 (placePast (numbersFor w - 1) input at) (allZero (drop w (bitsFrom input w at)))
+  fillAsked = ask 11 (placePast sevens (numbersFor w - 1) input at) (allZero (drop w (bitsFrom input w at)))
 
   endAsked : Question
-  endAsked = ask 12 (placePast (numbersFor w) input at) (leb (length input) (placePast (numbersFor w) input at))
+  endAsked = ask 12 (placePast sevens (numbersFor w) input at) (leb (length input) (placePast sevens (numbersFor w) input at))
 
-  body-whole : bodyQuestions input w at ≡ numbersQuestions (numbersFor w) input at ++ (fillAsked ∷ endAsked ∷ [])
+  body-whole : bodyQuestions input w at ≡ numbersQuestions sevens (numbersFor w) input at ++ (fillAsked ∷ endAsked ∷ [])
   unfolding bodyQuestions fillAsked endAsked
   body-whole = refl
 
-  pub body-stops : {values : List ℕ} {r : ReadNumber} {q p : ℕ} → r ≡ Refused q p → RowOf input w at values r → BodyOf input w at values r
+  pub body-stops : {values : List ℕ} {r : ReadNumber} {q p : ℕ} → r ≡ Refused q p → RowOf sevens input at (numbersFor w) values r → BodyOf input w at values r
   body-stops {q = q} {p = p} t R =
       row-refused
       (ap firstNo body-whole
-      ∙ asked-first (numbersQuestions (numbersFor w) input at) (fillAsked ∷ endAsked ∷ []) (got-refused (firstNo (numbersQuestions (numbersFor w) input at)) (placePast (numbersFor w - 1) input at) (placePast (numbersFor w) input at) (sym t ∙ R .answer)))
+      ∙ asked-first (numbersQuestions sevens (numbersFor w) input at) (fillAsked ∷ endAsked ∷ []) (got-refused (firstNo (numbersQuestions sevens (numbersFor w) input at)) (placePast sevens (numbersFor w - 1) input at) (placePast sevens (numbersFor w) input at) (sym t ∙ R .answer)))
       t
 
-  module _ {values : List ℕ} {r : ReadNumber} {last end : ℕ} (t : r ≡ Number last end) (R : RowOf input w at values r) where
-    got : Got (firstNo (numbersQuestions (numbersFor w) input at)) (placePast (numbersFor w - 1) input at) (placePast (numbersFor w) input at) last end
-    got = got-number (firstNo (numbersQuestions (numbersFor w) input at)) (placePast (numbersFor w - 1) input at) (placePast (numbersFor w) input at) (sym t ∙ R .answer)
+  module _ {values : List ℕ} {r : ReadNumber} {last end : ℕ} (t : r ≡ Number last end) (R : RowOf sevens input at (numbersFor w) values r) where
+    got : Got (firstNo (numbersQuestions sevens (numbersFor w) input at)) (placePast sevens (numbersFor w - 1) input at) (placePast sevens (numbersFor w) input at) last end
+    got = got-number (firstNo (numbersQuestions sevens (numbersFor w) input at)) (placePast sevens (numbersFor w - 1) input at) (placePast sevens (numbersFor w) input at) (sym t ∙ R .answer)
 
-    pub row-there : take (numbersFor w) values ≡ numbersAt (numbersFor w) input at
+    pub row-there : take (numbersFor w) values ≡ numbersAt sevens (numbersFor w) input at
     row-there = R .numbers (got .asked)
 
     filled : firstNo (bodyQuestions input w at) ≡ firstNo (fillAsked ∷ endAsked ∷ [])
-    filled = ap firstNo body-whole ∙ asked-both (numbersQuestions (numbersFor w) input at) (fillAsked ∷ endAsked ∷ []) (got .asked)
+    filled = ap firstNo body-whole ∙ asked-both (numbersQuestions sevens (numbersFor w) input at) (fillAsked ∷ endAsked ∷ []) (got .asked)
 
     same-fill : {b : Bool} → b ≡ allZero (drop w (bitsIn (take (numbersFor w) values))) → allZero (drop w (bitsFrom input w at)) ≡ b
     unfolding bitsFrom
@@ -167,24 +145,24 @@ module _ (input : List ℕ) (w at : ℕ) where
     pub body-fill : false ≡ allZero (drop w (bitsIn (take (numbersFor w) values))) → BodyOf input w at values (Refused 11 last)
     unfolding fillAsked
     body-fill e =
-        row-refused (filled ∙ asked-no 11 (placePast (numbersFor w - 1) input at) (allZero (drop w (bitsFrom input w at))) (endAsked ∷ []) (same-fill e)) (rw (got .value))
+        row-refused (filled ∙ asked-no 11 (placePast sevens (numbersFor w - 1) input at) (allZero (drop w (bitsFrom input w at))) (endAsked ∷ []) (same-fill e)) (rw (got .value))
 
     module _ (e : true ≡ allZero (drop w (bitsIn (take (numbersFor w) values)))) where
       ended : firstNo (bodyQuestions input w at) ≡ firstNo (endAsked ∷ [])
       unfolding fillAsked
-      ended = filled ∙ asked-yes 11 (placePast (numbersFor w - 1) input at) (allZero (drop w (bitsFrom input w at))) (endAsked ∷ []) (same-fill e)
+      ended = filled ∙ asked-yes 11 (placePast sevens (numbersFor w - 1) input at) (allZero (drop w (bitsFrom input w at))) (endAsked ∷ []) (same-fill e)
 
       pub body-surplus : end < length input → BodyOf input w at values (Refused 12 end)
       unfolding endAsked
       body-surplus h =
           row-refused
-          (ended ∙ asked-no 12 (placePast (numbersFor w) input at) (leb (length input) (placePast (numbersFor w) input at)) [] (lt-leb (length input) (placePast (numbersFor w) input at) (omega (arith, got .place))))
+          (ended ∙ asked-no 12 (placePast sevens (numbersFor w) input at) (leb (length input) (placePast sevens (numbersFor w) input at)) [] (lt-leb (length input) (placePast sevens (numbersFor w) input at) (omega (arith, got .place))))
           (rw (got .place))
 
       pub body-done : length input ≤ end → BodyOf input w at values (Number (numbersFor w) end)
       unfolding endAsked
       body-done h =
           let all : firstNo (bodyQuestions input w at) ≡ allYes =
-          ended ∙ asked-yes 12 (placePast (numbersFor w) input at) (leb (length input) (placePast (numbersFor w) input at)) [] (le-leb (length input) (placePast (numbersFor w) input at) (omega (arith, got .place)))
+          ended ∙ asked-yes 12 (placePast sevens (numbersFor w) input at) (leb (length input) (placePast sevens (numbersFor w) input at)) [] (le-leb (length input) (placePast sevens (numbersFor w) input at) (omega (arith, got .place)))
           in
           record { answer = rw (all, got .place); numbers = λ y. row-there }

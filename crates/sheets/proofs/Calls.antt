@@ -18,11 +18,12 @@ use Rattle.counts.specs.Counts.{W}
 use Rattle.numbers.specs.Reading.{readOf}
 use Rattle.numbers.specs.declared.ReadNumber.{ReadNumber}
 use Rattle.numbers.specs.declared.ReadNumber.the-variants.{Number, Refused}
+use Rattle.numbers.specs.Numbers.{sevens}
 use Rattle.numbers.proofs.Numbers.{Got, got-number, got-refused}
+use Rattle.rows.specs.Rows.{numbersAt, placePast, Row}
 use Rattle.sheets.specs.Sheet.{numbersFor, sheet}
-use Rattle.sheets.specs.Reading.{numbersAt, placePast, bitsIn}
-use Rattle.sheets.specs.Calls.{writeQuestions, writeSheet, placesIn, fourteensAt, headQuestions, bodyQuestions, bitsFrom, readQuestions, readSheet}
-use Rattle.sheets.specs.Inner.{Row}
+use Rattle.sheets.specs.Reading.{bitsIn}
+use Rattle.sheets.specs.Calls.{writeQuestions, writeSheet, placesIn, fourteensAt, headQuestions, bodyQuestions, bitsFrom, readQuestions, readSheet, settingIn}
 use Rattle.sheets.proofs.Asking.{head-sized}
 
 -- ---- write sheet
@@ -91,10 +92,6 @@ module _ (n : ℕ) (bits out : List ℕ) {a : Answer} where
 
 -- ---- read sheet
 
--- the bits that an accepted reading writes
-abbrev pub setting : List ℕ → List ℕ
-setting input = take (W (placesIn input)) (bitsFrom input (W (placesIn input)) (fourteensAt input))
-
 module _ (input : List ℕ) (room : ℕ) {head : ReadNumber} (e : head ≡ readOf (firstNo (headQuestions input room)) (placesIn input) (fourteensAt input)) where
   pub head-stops : {q p : ℕ} → head ≡ Refused q p → firstNo (readQuestions input room) ≡ noAt q p
   unfolding readQuestions
@@ -114,7 +111,7 @@ module _ (input : List ℕ) (room : ℕ) {head : ReadNumber} (e : head ≡ readO
 
     module _
         {w : ℕ} {values : List ℕ} {body : ReadNumber} (c : w ≡ W n)
-        (R : Row (bodyQuestions input w at) (numbersFor w) (placePast (numbersFor w) input at) (numbersFor w) (numbersAt (numbersFor w) input at) values body)
+        (R : Row (bodyQuestions input w at) (numbersFor w) (placePast sevens (numbersFor w) input at) (numbersFor w) (numbersAt sevens (numbersFor w) input at) values body)
       where
         same : bodyQuestions input w at ≡ bodyQuestions input (W (placesIn input)) (fourteensAt input)
         same = rw (c, head-got .value, head-got .place)
@@ -124,11 +121,11 @@ module _ (input : List ℕ) (room : ℕ) {head : ReadNumber} (e : head ≡ readO
         to-body = asked-both (headQuestions input room) (bodyQuestions input (W (placesIn input)) (fourteensAt input)) (head-got .asked) ∙ sym (ap firstNo same)
 
         pub body-stops : {q p : ℕ} → body ≡ Refused q p → firstNo (readQuestions input room) ≡ noAt q p
-        body-stops s = to-body ∙ got-refused (firstNo (bodyQuestions input w at)) (numbersFor w) (placePast (numbersFor w) input at) (sym s ∙ R .answer)
+        body-stops s = to-body ∙ got-refused (firstNo (bodyQuestions input w at)) (numbersFor w) (placePast sevens (numbersFor w) input at) (sym s ∙ R .answer)
 
         module _ {k end : ℕ} (s : body ≡ Number k end) where
-          body-got : Got (firstNo (bodyQuestions input w at)) (numbersFor w) (placePast (numbersFor w) input at) k end
-          body-got = got-number (firstNo (bodyQuestions input w at)) (numbersFor w) (placePast (numbersFor w) input at) (sym s ∙ R .answer)
+          body-got : Got (firstNo (bodyQuestions input w at)) (numbersFor w) (placePast sevens (numbersFor w) input at) k end
+          body-got = got-number (firstNo (bodyQuestions input w at)) (numbersFor w) (placePast sevens (numbersFor w) input at) (sym s ∙ R .answer)
 
           pub read-passes : firstNo (readQuestions input room) ≡ allYes
           read-passes = to-body ∙ body-got .asked
@@ -136,10 +133,10 @@ module _ (input : List ℕ) (room : ℕ) {head : ReadNumber} (e : head ≡ readO
           pub read-count : n ≡ placesIn input
           read-count = head-got .value
 
-          pub read-bits : take w (bitsIn (take k values)) ≡ setting input
-          unfolding bitsFrom
+          pub read-bits : take w (bitsIn (take k values)) ≡ settingIn input
+          unfolding bitsFrom settingIn
           read-bits =
-              let row : take k values ≡ numbersAt (numbersFor w) input at = rw (body-got .value) (R .numbers (body-got .asked)) in
+              let row : take k values ≡ numbersAt sevens (numbersFor w) input at = rw (body-got .value) (R .numbers (body-got .asked)) in
               rw row (rw (c, head-got .value, head-got .place))
 
 -- how many numbers a row has put there
@@ -153,13 +150,13 @@ row-count {qs} {a} {b} R s = got-number (firstNo qs) a b (sym s ∙ R .answer) .
 module _ (input bits : List ℕ) {a : Answer} where
   pub read-refused : {q p : ℕ} → firstNo (readQuestions input (length bits)) ≡ noAt q p → a ≡ refusal q p → outcome a bits ≡ readSheet input bits
   unfolding readSheet
-  read-refused e r = ends-refused (firstNo (readQuestions input (length bits))) (placesIn input) (setting input) bits e r refl
+  read-refused e r = ends-refused (firstNo (readQuestions input (length bits))) (placesIn input) (settingIn input) bits e r refl
 
   pub read-accepted :
       {after : List ℕ}
       → firstNo (readQuestions input (length bits)) ≡ allYes
       → a ≡ accepted (placesIn input)
-      → after ≡ overlay bits 0 (setting input)
+      → after ≡ overlay bits 0 (settingIn input)
       → outcome a after ≡ readSheet input bits
   unfolding readSheet
-  read-accepted e r k = ends-accepted (firstNo (readQuestions input (length bits))) (placesIn input) (setting input) bits e r k
+  read-accepted e r k = ends-accepted (firstNo (readQuestions input (length bits))) (placesIn input) (settingIn input) bits e r k

@@ -10,9 +10,10 @@ use Rattle.answers.specs.Questions.{firstBadFrom}
 use Rattle.answers.specs.Outcomes.{Outcome, outcome}
 use Rattle.counts.specs.Counts.{W, byHalves}
 use Rattle.numbers.specs.Numbers.{numberBytes, numberQuestions, numberAt}
-use Rattle.sheets.specs.Sheet.{bitsNumber, fourteens, numbersBytes, sheet}
-use Rattle.sheets.specs.Reading.{numbersQuestions, numbersAt, placePast, lowBits, bitsIn, allZero}
-use Rattle.sheets.specs.Calls.{writeQuestions, writeSheet, headQuestions, bitsFrom, bodyQuestions, readQuestions, readSheet}
+use Rattle.rows.specs.Rows.{numbersBytes, numbersQuestions, numbersAt, placePast}
+use Rattle.sheets.specs.Sheet.{bitsNumber, fourteens, sheet}
+use Rattle.sheets.specs.Reading.{lowBits, bitsIn, allZero}
+use Rattle.sheets.specs.Calls.{writeQuestions, writeSheet, headQuestions, bitsFrom, bodyQuestions, readQuestions, readSheet, settingIn}
 
 -- a setting and its sheet; a sheet that is refused, with the question and the place
 pub data Case : Type 0 where
@@ -44,5 +45,5 @@ cases =
     ∷ []
 
 pub cases-hold : map run cases ≡ map expected cases
-unfolding cases map writeSheet writeQuestions readSheet readQuestions headQuestions bodyQuestions bitsFrom sheet numbersBytes fourteens bitsNumber numberBytes numberQuestions numberAt numbersQuestions numbersAt placePast lowBits bitsIn allZero firstBadFrom W byHalves overlay
+unfolding cases map writeSheet writeQuestions readSheet settingIn readQuestions headQuestions bodyQuestions bitsFrom sheet numbersBytes fourteens bitsNumber numberBytes numberQuestions numberAt numbersQuestions numbersAt placePast lowBits bitsIn allZero firstBadFrom W byHalves overlay
 cases-hold = refl

@@ -1,7 +1,7 @@
 pub mod Unpacking
-pub mod Rows
 pub mod Writing
 pub mod Asking
 pub mod Calls
 pub mod Round
+pub mod Setting
 pub mod Cases

@@ -3,31 +3,32 @@
 use mathlib.Core.Path.{_≡_, refl, sym, ap, _∙_}
 use mathlib.Core.Bool.{true}
 use mathlib.Core.List.{List, [], _∷_, _++_, append-assoc, append-nil}
-use Prim.Native.Nat.{ℕ, zero, suc, _+_, _-_, _≤_}
+use Prim.Native.Nat.{ℕ, _+_, _-_, _≤_}
 use native.Mathlib.Omega.{arith}
 use lib.Dec.{leb, eqb}
 use lib.ListN.{length, take, drop, length-append}
 use lib.Seq.{take-all}
 use borrow.Author.Tests.{leb-true, eqb-true}
 use Rattle.answers.specs.Answers.{accepted}
-use Rattle.answers.specs.Questions.{Question, ask, askEach, firstBad, allYes, firstNo}
+use Rattle.answers.specs.Questions.{ask, askEach, firstBad, allYes, firstNo}
 use Rattle.answers.specs.Buffers.{overlay}
 use Rattle.answers.specs.Outcomes.{Outcome, outcome}
 use Rattle.answers.proofs.Questions.{passed}
 use Rattle.answers.proofs.Buffers.{overlay-read}
-use Rattle.answers.proofs.Outcomes.{Numbered, accepted-when}
+use Rattle.answers.proofs.Outcomes.{accepted-when, numbered-both}
 use Rattle.bits.specs.Bits.{isBit, Bits}
 use Rattle.bits.proofs.Bytes.{bits-all, all-bits}
 use Rattle.counts.specs.Counts.{W}
-use Rattle.numbers.specs.Numbers.{numberBytes, numberQuestions, numberAt}
+use Rattle.numbers.specs.Numbers.{numberBytes, numberQuestions, sevens}
 use Rattle.numbers.specs.declared.ReadNumber.the-variants.{Number}
 use Rattle.numbers.proofs.Numbers.{Reads, numbered, number-back}
-use Rattle.sheets.specs.Sheet.{numbersFor, fourteens, numbersBytes, sheet}
-use Rattle.sheets.specs.Reading.{numbersQuestions, numbersAt, placePast, bitsIn, allZero}
+use Rattle.rows.specs.Rows.{numbersBytes, numbersQuestions, numbersAt, placePast}
+use Rattle.rows.proofs.Rows.{Back, row-back, numbered-row}
+use Rattle.rows.proofs.Reading.{RowOf}
+use Rattle.sheets.specs.Sheet.{numbersFor, fourteens, sheet}
+use Rattle.sheets.specs.Reading.{bitsIn, allZero}
 use Rattle.sheets.specs.Calls.{writeQuestions, writeSheet, placesAt, placesIn, fourteensAt, headQuestions, bodyQuestions, readQuestions, readSheet}
-use Rattle.sheets.specs.Inner.{Row}
 use Rattle.sheets.proofs.Unpacking.{fourteens-fit, fourteens-length, setting-back, fill-back}
-use Rattle.sheets.proofs.Rows.{Back, row-back}
 use Rattle.sheets.proofs.Asking.{head-done, body-done}
 use Rattle.sheets.proofs.Calls.{write-passes, write-accepted, read-passes, read-count, read-bits, read-accepted}
 
@@ -41,23 +42,23 @@ module _ (n : ℕ) (bits : List ℕ) (few : n ≤ 1024) (count : length bits ≡
   front : List ℕ
   front = numberBytes 1 ++ numberBytes n
 
-  shape : sheet n bits ≡ numberBytes 1 ++ (numberBytes n ++ numbersBytes numbers)
+  shape : sheet n bits ≡ numberBytes 1 ++ (numberBytes n ++ numbersBytes sevens numbers)
   unfolding sheet numbersBytes numbers
   shape = rw count
 
-  form-there : Reads (sheet n bits) 0 1 (length (numberBytes 1))
+  form-there : Reads sevens (sheet n bits) 0 1 (length (numberBytes 1))
   form-there =
       let z : 0 + length (numberBytes 1) ≡ length (numberBytes 1) = omega arith in
-      rw (← z, shape) (number-back [] (numberBytes n ++ numbersBytes numbers) 1 (omega arith))
+      rw (← z, shape) (number-back [] (numberBytes n ++ numbersBytes sevens numbers) 1 (omega arith))
 
-  places-there : Reads (sheet n bits) (length (numberBytes 1)) n (length front)
+  places-there : Reads sevens (sheet n bits) (length (numberBytes 1)) n (length front)
   unfolding front
-  places-there = rw (length-append (numberBytes 1) (numberBytes n), shape) (number-back (numberBytes 1) (numbersBytes numbers) n (omega arith))
+  places-there = rw (length-append (numberBytes 1) (numberBytes n), shape) (number-back (numberBytes 1) (numbersBytes sevens numbers) n (omega arith))
 
-  row-there : Back (sheet n bits) (length front) numbers (length front + length (numbersBytes numbers))
+  row-there : Back sevens (sheet n bits) (length front) numbers (length front + length (numbersBytes sevens numbers))
   unfolding front numbers
   row-there =
-      row-back numbers (sheet n bits) front [] (shape ∙ sym (append-assoc (numberBytes 1) (numberBytes n) (numbersBytes numbers ++ []) ∙ rw append-nil))
+      row-back sevens number-back numbers (sheet n bits) front [] (shape ∙ sym (append-assoc (numberBytes 1) (numberBytes n) (numbersBytes sevens numbers ++ []) ∙ rw append-nil))
       (fourteens-fit (numbersFor (W n)) bits h)
 
   long : length numbers ≡ numbersFor (W n)
@@ -65,24 +66,23 @@ module _ (n : ℕ) (bits : List ℕ) (few : n ≤ 1024) (count : length bits ≡
   long = fourteens-length (numbersFor (W n)) bits
 
   row-of :
-      Row (numbersQuestions (numbersFor (W n)) (sheet n bits) (length front)) (placePast (numbersFor (W n) - 1) (sheet n bits) (length front))
-      (placePast (numbersFor (W n)) (sheet n bits) (length front)) (numbersFor (W n)) (numbersAt (numbersFor (W n)) (sheet n bits) (length front)) numbers
-      (Number (placePast (numbersFor (W n) - 1) (sheet n bits) (length front)) (placePast (numbersFor (W n)) (sheet n bits) (length front)))
+      RowOf sevens (sheet n bits) (length front) (numbersFor (W n)) numbers
+      (Number (placePast sevens (numbersFor (W n) - 1) (sheet n bits) (length front)) (placePast sevens (numbersFor (W n)) (sheet n bits) (length front)))
   row-of =
-      let asked : firstNo (numbersQuestions (numbersFor (W n)) (sheet n bits) (length front)) ≡ allYes = rw long at (row-there .asked) in
-      let there : numbersAt (numbersFor (W n)) (sheet n bits) (length front) ≡ numbers = rw long at (row-there .numbers) in
+      let asked : firstNo (numbersQuestions sevens (numbersFor (W n)) (sheet n bits) (length front)) ≡ allYes = rw long at (row-there .asked) in
+      let there : numbersAt sevens (numbersFor (W n)) (sheet n bits) (length front) ≡ numbers = rw long at (row-there .numbers) in
       record { answer = rw asked; numbers = λ y. take-all (numbersFor (W n)) numbers (omega (arith, long)) ∙ sym there }
 
-  whole : length (sheet n bits) ≤ placePast (numbersFor (W n)) (sheet n bits) (length front)
+  whole : length (sheet n bits) ≤ placePast sevens (numbersFor (W n)) (sheet n bits) (length front)
   unfolding front
   whole =
-      let place : placePast (numbersFor (W n)) (sheet n bits) (length front) ≡ length front + length (numbersBytes numbers) = rw long at (row-there .place) in
+      let place : placePast sevens (numbersFor (W n)) (sheet n bits) (length front) ≡ length front + length (numbersBytes sevens numbers) = rw long at (row-there .place) in
       omega (
         arith,
         place,
         ap length shape,
-        length-append (numberBytes 1) (numberBytes n ++ numbersBytes numbers),
-        length-append (numberBytes n) (numbersBytes numbers),
+        length-append (numberBytes 1) (numberBytes n ++ numbersBytes sevens numbers),
+        length-append (numberBytes n) (numbersBytes sevens numbers),
         length-append (numberBytes 1) (numberBytes n),
       )
 
@@ -137,16 +137,6 @@ write-only n bits out e =
 
 -- ---- when read sheet is accepted
 
-pub numbered-both : (qs rs : List Question) → Numbered qs → Numbered rs → Numbered (qs ++ rs)
-numbered-both [] rs h g = g
-numbered-both (q ∷ qs) rs h g = (h .0, numbered-both qs rs (h .1) g)
-
-pub numbered-row : (k : ℕ) (input : List ℕ) (at : ℕ) → Numbered (numbersQuestions k input at)
-unfolding numbersQuestions
-numbered-row zero input at = tt
-numbered-row (suc k) input at =
-    numbered-both (numberQuestions input at) (numbersQuestions k input (numberAt input at .next)) (numbered input at) (numbered-row k input (numberAt input at .next))
-
 -- number 0 only where every question gets a yes
 pub read-only : (input buffer : List ℕ) → readSheet input buffer .answer .number ≡ 0 → firstNo (readQuestions input (length buffer)) ≡ allYes
 unfolding readSheet readQuestions headQuestions bodyQuestions
@@ -155,8 +145,8 @@ read-only input buffer e =
     (numbered-both (headQuestions input (length buffer)) (bodyQuestions input (W (placesIn input)) (fourteensAt input))
     (numbered-both (numberQuestions input 0) _ (numbered input 0)
     (omega arith, numbered-both (numberQuestions input (placesAt input)) _ (numbered input (placesAt input)) (omega arith, (omega arith, tt))))
-    (numbered-both (numbersQuestions (numbersFor (W (placesIn input))) input (fourteensAt input)) _
-    (numbered-row (numbersFor (W (placesIn input))) input (fourteensAt input)) (omega arith, (omega arith, tt))))
+    (numbered-both (numbersQuestions sevens (numbersFor (W (placesIn input))) input (fourteensAt input)) _
+    (numbered-row sevens input (numbered input) (numbersFor (W (placesIn input))) (fourteensAt input)) (omega arith, (omega arith, tt))))
     e
 
 -- ---- the round trip: what an accepted write wrote is read back as n and those bits, into any buffer with room for them

@@ -13,9 +13,9 @@ use lib.ListN.{length, getD, take, drop, replicate, length-append, length-take, 
 use lib.Seq.{take-all, take-at, drop-at, drop-append-add, getD-append-add, getD-drop, split-at}
 use borrow.Author.Tests.{ne-eqb, eqb-true}
 use Rattle.bits.specs.Bits.{Bits}
+use Rattle.rows.specs.Rows.{Fourteens}
 use Rattle.sheets.specs.Sheet.{bitsNumber, fourteens, numbersFor}
 use Rattle.sheets.specs.Reading.{lowBits, bitsIn, allZero}
-use Rattle.sheets.specs.Inner.{Fourteens}
 
 -- ---- one number
 

@@ -8,9 +8,11 @@ use Rattle.answers.specs.Questions.{Question, ask, askEach, firstNo}
 use Rattle.answers.specs.Outcomes.{Outcome, settled}
 use Rattle.bits.specs.Bits.{isBit}
 use Rattle.counts.specs.Counts.{W}
-use Rattle.numbers.specs.Numbers.{numberQuestions, numberAt}
+use Rattle.numbers.specs.Numbers.{numberQuestions, numberAt, sevens}
+use Rattle.numbers.specs.declared.ReadNumber.{ReadNumber}
+use Rattle.rows.specs.Rows.{numbersQuestions, numbersAt, placePast, Row}
 use Rattle.sheets.specs.Sheet.{numbersFor, sheet}
-use Rattle.sheets.specs.Reading.{numbersQuestions, numbersAt, placePast, bitsIn, allZero}
+use Rattle.sheets.specs.Reading.{bitsIn, allZero}
 
 -- ---- write sheet: 1, 4, 7, 13
 
@@ -53,22 +55,29 @@ headQuestions input room =
 
 -- the bits of all the fourteens: the setting's w, and then the fill bits
 unfoldable pub bitsFrom : List ℕ → ℕ → ℕ → List ℕ
-bitsFrom input w at = bitsIn (numbersAt (numbersFor w) input at)
+bitsFrom input w at = bitsIn (numbersAt sevens (numbersFor w) input at)
 
 -- each number of the w bits from a place on, 11 at the last one's first byte, 12 at the first byte past them
 unfoldable pub bodyQuestions : List ℕ → ℕ → ℕ → List Question
 bodyQuestions input w at =
-    numbersQuestions (numbersFor w) input at
-    ++ (ask 11 (placePast (numbersFor w - 1) input at) (allZero (drop w (bitsFrom input w at)))
-    ∷ ask 12 (placePast (numbersFor w) input at) (leb (length input) (placePast (numbersFor w) input at))
+    numbersQuestions sevens (numbersFor w) input at
+    ++ (ask 11 (placePast sevens (numbersFor w - 1) input at) (allZero (drop w (bitsFrom input w at)))
+    ∷ ask 12 (placePast sevens (numbersFor w) input at) (leb (length input) (placePast sevens (numbersFor w) input at))
     ∷ [])
 
 unfoldable pub readQuestions : List ℕ → ℕ → List Question
 readQuestions input room = headQuestions input room ++ bodyQuestions input (W (placesIn input)) (fourteensAt input)
 
--- the setting's bits over the front of the buffer, and as count n
+-- the setting in a sheet
+unfoldable pub settingIn : List ℕ → List ℕ
+settingIn input = take (W (placesIn input)) (bitsFrom input (W (placesIn input)) (fourteensAt input))
+
+-- its bits over the front of the buffer, and as count n
 unfoldable pub readSheet : List ℕ → List ℕ → Outcome
 readSheet input buffer =
-    settled (firstNo (readQuestions input (length buffer))) (placesIn input)
-    (take (W (placesIn input)) (bitsFrom input (W (placesIn input)) (fourteensAt input)))
-    buffer
+    settled (firstNo (readQuestions input (length buffer))) (placesIn input) (settingIn input) buffer
+
+-- .. read into room for the longest setting: n and W(n) where every question gets a yes, and then the setting in front
+abbrev pub SettingRead : List ℕ → List ℕ → ReadNumber → Type 0
+SettingRead input bits r =
+    Row (readQuestions input 9217) (placesIn input) (W (placesIn input)) (W (placesIn input)) (settingIn input) bits r

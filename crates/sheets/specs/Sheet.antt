@@ -1,9 +1,10 @@
 -- The sheet of a setting (01, 'Sheet').
 -- Assumes nothing: these are definitions.
-use mathlib.Core.List.{List, [], _∷_, _++_}
+use mathlib.Core.List.{List, [], _∷_}
 use Prim.Native.Nat.{ℕ, zero, suc, _+_, _*_, _/_}
 use lib.ListN.{length, take, drop}
-use Rattle.numbers.specs.Numbers.{numberBytes}
+use Rattle.numbers.specs.Numbers.{sevens}
+use Rattle.rows.specs.Rows.{numbersBytes}
 
 -- the number of some bits, the first bit lowest
 unfoldable pub bitsNumber : List ℕ → ℕ
@@ -19,11 +20,6 @@ unfoldable pub fourteens : ℕ → List ℕ → List ℕ
 fourteens zero bits = []
 fourteens (suc k) bits = bitsNumber (take 14 bits) ∷ fourteens k (drop 14 bits)
 
--- the bytes of numbers, one number after the other
-unfoldable pub numbersBytes : List ℕ → List ℕ
-numbersBytes [] = []
-numbersBytes (v ∷ vs) = numberBytes v ++ numbersBytes vs
-
 -- the form number 1, then n, then the bits in fourteens
 unfoldable pub sheet : ℕ → List ℕ → List ℕ
-sheet n bits = numbersBytes (1 ∷ n ∷ fourteens (numbersFor (length bits)) bits)
+sheet n bits = numbersBytes sevens (1 ∷ n ∷ fourteens (numbersFor (length bits)) bits)

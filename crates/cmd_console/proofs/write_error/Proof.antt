@@ -2,7 +2,7 @@
 -- Assumes nothing.
 use mathlib.Core.Path.{sym}
 use lib.Seq.{length-take-le}
-use Rattle.sheets.proofs.Writing.{put-within}
+use Rattle.answers.proofs.Putting.{put-within}
 use borrow.Author.Needs.{needs}
 use Rattle.cmd_console.proofs.write_error.Statement.{statement}
 use Rattle.cmd_console.proofs.write_error.Tie as tie

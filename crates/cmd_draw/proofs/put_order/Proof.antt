@@ -9,14 +9,14 @@ use Rattle.cmd_draw.proofs.put_order.Tie as tie
 put-number-requires : tie.Need-put-number-requires
 put-number-requires c κs = search needs
 
-put-entries-requires : tie.Need-put-entries-requires
-put-entries-requires c κs = let s = c .before .before .before .before .before .before .before in (omega (arith, s .pre .1, s .pre .0, count-few (s .args .order .now) (s .pre .1) (c .before .before .before .put-number .ensures), c .before .before .before .put-number .kept), s .pre .2)
+put-row-requires : tie.Need-put-row-requires
+put-row-requires c κs = let s = c .before .before .before .before .before .before .before in (omega (arith, s .pre .1, s .pre .0, count-few (s .args .order .now) (s .pre .1) (c .before .before .before .put-number .ensures), c .before .before .before .put-number .kept), s .pre .2)
 
 same-length : tie.Need-same-length
 same-length c = search needs
 
 returns : tie.Need-returns
-returns c = let s = c .before .before .before .before .before .before .before .before .before .before in order-put (s .args .order .now) (s .pre .1) (c .before .before .before .before .before .before .put-number .ensures) (c .before .before .put-entries .ensures)
+returns c = let s = c .before .before .before .before .before .before .before .before .before .before in order-put (s .args .order .now) (s .pre .1) (c .before .before .before .before .before .before .put-number .ensures) (c .before .before .put-row .ensures)
 
 pub put-order-spec : {M : Type 1} → statement M
-put-order-spec = tie.close (tie.spec put-number-requires put-entries-requires same-length returns)
+put-order-spec = tie.close (tie.spec put-number-requires put-row-requires same-length returns)

@@ -23,8 +23,8 @@ returns c = count-stops _ (c .enum-told .given .1) (c .before .before .read-numb
 returns-2 : tie.Need-returns-2
 returns-2 c = count-large _ (reads _ _ _ _ (ap meaning (sym (c .before .before .count .given .1)) ∙ c .before .before .before .before .read-number .ensures)) (c .if1 .taken)
 
-read-entries-requires : tie.Need-read-entries-requires
-read-entries-requires c κs = search needs
+read-row-requires : tie.Need-read-row-requires
+read-row-requires c κs = search needs
 
 enum-known-entries : tie.Need-enum-known-entries
 enum-known-entries c = search needs
@@ -36,19 +36,19 @@ same-length : tie.Need-same-length
 same-length c = search needs
 
 returns-3 : tie.Need-returns-3
-returns-3 c = row-stop _ (reads _ _ _ _ (ap meaning (sym (c .before .before .before .before .before .before .before .before .count .given .1)) ∙ c .before .before .before .before .before .before .before .before .before .before .read-number .ensures)) (c .before .before .before .before .before .before .if1 .left) (c .before .before .before .before .read-entries .ensures) (c .enum-told2 .given .1)
+returns-3 c = row-stop _ (reads _ _ _ _ (ap meaning (sym (c .before .before .before .before .before .before .before .before .count .given .1)) ∙ c .before .before .before .before .before .before .before .before .before .before .read-number .ensures)) (c .before .before .before .before .before .before .if1 .left) (c .before .before .before .before .read-row .ensures) (c .enum-told2 .given .1)
 
 same-length-2 : tie.Need-same-length-2
 same-length-2 c = search needs
 
 returns-4 : tie.Need-returns-4
-returns-4 c = surplus _ (reads _ _ _ _ (ap meaning (sym (c .before .before .before .before .before .before .before .before .before .before .count .given .1)) ∙ c .before .before .before .before .before .before .before .before .before .before .before .before .read-number .ensures)) (c .before .before .before .before .before .before .before .before .if1 .left) (c .before .before .before .before .before .before .read-entries .ensures) (c .before .before .entries .given .1) (c .if2 .taken)
+returns-4 c = surplus _ (reads _ _ _ _ (ap meaning (sym (c .before .before .before .before .before .before .before .before .before .before .count .given .1)) ∙ c .before .before .before .before .before .before .before .before .before .before .before .before .read-number .ensures)) (c .before .before .before .before .before .before .before .before .if1 .left) (c .before .before .before .before .before .before .read-row .ensures) (c .before .before .entries .given .1) (c .if2 .taken)
 
 same-length-3 : tie.Need-same-length-3
 same-length-3 c = search needs
 
 returns-5 : tie.Need-returns-5
-returns-5 c = order-done _ (reads _ _ _ _ (ap meaning (sym (c .before .before .before .before .before .before .before .before .before .before .count .given .1)) ∙ c .before .before .before .before .before .before .before .before .before .before .before .before .read-number .ensures)) (c .before .before .before .before .before .before .before .before .if1 .left) (c .before .before .before .before .before .before .read-entries .ensures) (c .before .before .entries .given .1) (c .if2 .left)
+returns-5 c = order-done _ (reads _ _ _ _ (ap meaning (sym (c .before .before .before .before .before .before .before .before .before .before .count .given .1)) ∙ c .before .before .before .before .before .before .before .before .before .before .before .before .read-number .ensures)) (c .before .before .before .before .before .before .before .before .if1 .left) (c .before .before .before .before .before .before .read-row .ensures) (c .before .before .entries .given .1) (c .if2 .left)
 
 pub read-order-spec : {M : Type 1} → statement M
 read-order-spec =
@@ -59,7 +59,7 @@ read-order-spec =
     enum-told
     returns
     returns-2
-    read-entries-requires
+    read-row-requires
     enum-known-entries
     enum-told-2
     same-length

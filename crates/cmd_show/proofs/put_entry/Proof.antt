@@ -1,7 +1,7 @@
 -- `showing::put_entry` meets its contract.
 -- Assumes nothing.
 use native.Mathlib.Omega.{arith}
-use Rattle.sheets.proofs.Writing.{put-then}
+use Rattle.answers.proofs.Putting.{put-then}
 use Rattle.cmd_show.proofs.Spacing.{entry-few}
 use borrow.Author.Needs.{needs}
 use Rattle.cmd_show.proofs.put_entry.Statement.{statement}

@@ -1,7 +1,7 @@
 -- `showing::put_pictured` meets its contract.
 -- Assumes nothing.
 use native.Mathlib.Omega.{arith}
-use Rattle.sheets.proofs.Writing.{put-none}
+use Rattle.answers.proofs.Putting.{put-none}
 use Rattle.cmd_picture.proofs.Logged.{picture-length}
 use Rattle.cmd_show.proofs.Spacing.{few-places, many-places, some-places}
 use borrow.Author.Needs.{needs}

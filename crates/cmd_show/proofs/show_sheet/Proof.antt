@@ -1,50 +1,61 @@
--- `showing::show_sheet` meets its contract.
+-- `cmd_show::show_sheet` meets its contract.
 -- Assumes nothing.
 use mathlib.Core.Path.{sym}
-use mathlib.Core.List.{[]}
 use native.Mathlib.Omega.{arith}
 use lib.Seq.{length-take-le}
-use Rattle.cmd_move.proofs.Moving.{read-few}
-use Rattle.cmd_show.proofs.Showing.{show-refused, read-count, read-bits, show-done}
+use Rattle.sheets.proofs.Setting.{setting-few, setting-fits, setting-room, setting-count, setting-areBits}
+use Rattle.cmd_show.proofs.Showing.{show-refused, show-done}
 use borrow.Author.Needs.{needs}
 use Rattle.cmd_show.proofs.show_sheet.Statement.{statement}
 use Rattle.cmd_show.proofs.show_sheet.Tie as tie
 
-slice-aggregate-read-sheet : tie.Need-slice-aggregate-read-sheet
-slice-aggregate-read-sheet c = search needs
+read-setting-requires : tie.Need-read-setting-requires
+read-setting-requires c κs = search needs
 
-read-sheet-requires : tie.Need-read-sheet-requires
-read-sheet-requires c κs = search needs
+enum-known-read : tie.Need-enum-known-read
+enum-known-read c = search needs
+
+enum-told : tie.Need-enum-told
+enum-told c = search needs
+
+answer-requires : tie.Need-answer-requires
+answer-requires c κs = search needs
 
 returns : tie.Need-returns
-returns c = show-refused _ _ _ (search needs) (c .before .before .before .read-sheet .ensures) (c .if1 .taken)
-
-switches-requires : tie.Need-switches-requires
-switches-requires c κs = read-few _ _ (c .before .before .before .read-sheet .ensures) (c .if1 .left)
+returns c = show-refused _ _ (c .before .before .before .read-setting .ensures) (c .before .enum-told .given .1) (c .answer .ensures)
 
 array-share-prefix-bits : tie.Need-array-share-prefix-bits
-array-share-prefix-bits c = search needs
+array-share-prefix-bits c = setting-room _ (c .before .before .before .before .read-setting .ensures) (c .before .before .read .given .1)
 
 slice-aggregate-put-setting : tie.Need-slice-aggregate-put-setting
-slice-aggregate-put-setting c = sym (length-take-le _ _ (omega (arith, c .before .before .switches .ensures .1)))
+slice-aggregate-put-setting c =
+    let r = c .before .before .before in
+    sym (length-take-le _ _ (setting-room _ (r .before .before .read-setting .ensures) (r .read .given .1)))
 
 put-setting-requires : tie.Need-put-setting-requires
-put-setting-requires c κs = let i = c .before .before .before in (read-few _ _ (i .before .before .before .read-sheet .ensures) (i .if1 .left), omega (arith, c .before .before .switches .ensures), read-count _ _ [] (search needs) (i .before .before .before .read-sheet .ensures) (i .if1 .left) (c .before .before .switches .ensures .0), read-bits _ _ [] (search needs) (i .before .before .before .read-sheet .ensures) (i .if1 .left) (c .before .before .switches .ensures .0), omega arith)
+put-setting-requires c κs =
+    let r = c .before .before .before in
+    let R = r .before .before .read-setting .ensures in
+    let t = r .read .given .1 in
+    (setting-few _ R t, setting-fits _ R t, setting-count _ R t, setting-areBits _ R t, omega arith)
 
 accept-requires : tie.Need-accept-requires
 accept-requires c κs = search needs
 
 returns-2 : tie.Need-returns-2
-returns-2 c = let i = c .before .before .before .before .before in show-done (i .before .before .before .before .before .before .args .sheet .now) _ _ (search needs) (i .before .before .before .read-sheet .ensures) (i .if1 .left) (c .before .before .before .before .switches .ensures .0) (c .before .put-setting .ensures) (c .accept .ensures)
+returns-2 c =
+    let r = c .before .before .before .before .before in
+    show-done _ _ (r .before .before .read-setting .ensures) (r .read .given .1) (c .before .put-setting .ensures) (c .accept .ensures)
 
 pub show-sheet-spec : {M : Type 1} → statement M
 show-sheet-spec =
     tie.close
     (tie.spec
-    slice-aggregate-read-sheet
-    read-sheet-requires
+    read-setting-requires
+    enum-known-read
+    enum-told
+    answer-requires
     returns
-    switches-requires
     array-share-prefix-bits
     slice-aggregate-put-setting
     put-setting-requires

@@ -9,8 +9,7 @@ use borrow.Author.Needs.{needs}
 use Rattle.answers.specs.declared.Answer.{Answer}
 use Rattle.answers.specs.Questions.{firstNo}
 use Rattle.answers.specs.Outcomes.{outcome}
-use Rattle.sheets.specs.Calls.{placesIn, readQuestions}
-use Rattle.cmd_move.specs.Calls.{settingIn}
+use Rattle.sheets.specs.Calls.{placesIn, readQuestions, settingIn}
 use Rattle.cmd_show.specs.Show.{settingText, showCall}
 use Rattle.cmd_console.proofs.Streams.{made-within}
 use Rattle.show.proofs.show.Statement.{statement}
