@@ -3,6 +3,8 @@
 mod plain;
 
 use answers::Answer;
+use cmd_console::Argument;
+use cmd_console::Program;
 use tally::Tally;
 
 // An answer that must be a success, and one that must be a refusal: its number, its place and the count 0.
@@ -218,21 +220,37 @@ fn bad_draws() -> Tally {
     bad_draw(d, 1, b"abc", 16)
 }
 
-// ---- arguments and the line of a refusal
+// ---- arguments, and the lines that are told
 
-fn argument(t: Tally, text: &[u8], value: usize) -> Tally {
-    tally::tallied(t, cmd_arguments::decimal(text) == value)
+// What is no number stands as 10,001.
+fn number(a: Argument) -> usize {
+    match a {
+        Argument::Number(v) => v,
+        Argument::NoNumber => 10001,
+    }
 }
 
-fn check_arguments() -> Tally {
-    let a = argument(tally::none(), b"256", 256);
-    let b = argument(a, b"0009", 9);
-    let c = argument(b, b"9999", 9999);
-    let d = argument(c, b"", 10000);
-    let e = argument(d, b"00009", 10000);
-    let f = argument(e, b"1/", 10000);
-    let g = argument(f, b"1:", 10000);
-    argument(g, b"-1", 10000)
+fn argument(t: Tally, text: &[u8], value: usize) -> Tally {
+    tally::tallied(t, number(cmd_console::decimal(text)) == value)
+}
+
+fn check_numbers() -> Tally {
+    let a = argument(tally::none(), b"0", 0);
+    let b = argument(a, b"256", 256);
+    let c = argument(b, b"00009", 9);
+    let d = argument(c, b"9999", 9999);
+    let e = argument(d, b"10000", 10000);
+    let f = argument(e, b"10001", 10000);
+    argument(f, b"18446744073709551617", 10000)
+}
+
+fn check_no_numbers() -> Tally {
+    let a = argument(tally::none(), b"", 10001);
+    let b = argument(a, b"1/", 10001);
+    let c = argument(b, b":1", 10001);
+    let d = argument(c, b"-1", 10001);
+    let e = argument(d, b" 1", 10001);
+    argument(e, b"99999x", 10001)
 }
 
 fn is_part(made: &[u8], n: usize, text: &[u8]) -> bool {
@@ -258,6 +276,86 @@ fn check_lines() -> Tally {
     tally::tallied(d, cmd_console::output_length(answers::refuse(9, 1), 5) == 0)
 }
 
+// How a program is called, and what is told of a file of it.
+fn told(before: Tally, program: Program, usage: &[u8], subject: &[u8]) -> Tally {
+    let mut line = [7u8; 53];
+    let n = cmd_console::usage_text(program, &mut line);
+    let t = tally::tallied(before, is_line(&line, n, usage));
+    let mut text = [7u8; 53];
+    let m = cmd_console::put_subject(program, b"a file", &mut text);
+    tally::tallied(t, is_line(&text, m, subject))
+}
+
+fn check_told() -> Tally {
+    let a = told(
+        tally::none(),
+        Program::Draw,
+        b"usage: draw N < RANDOM > ORDER\n",
+        b"draw: a file",
+    );
+    let b = told(
+        a,
+        Program::Sheet,
+        b"usage: sheet < ORDER > SHEET\n",
+        b"sheet: a file",
+    );
+    let c = told(
+        b,
+        Program::Mix,
+        b"usage: mix SHEET WIDTH < BLOCKS > MIXED\n",
+        b"mix: a file",
+    );
+    let d = told(
+        c,
+        Program::Unmix,
+        b"usage: unmix SHEET WIDTH < MIXED > BLOCKS\n",
+        b"unmix: a file",
+    );
+    let e = told(d, Program::Show, b"usage: show SHEET\n", b"show: a file");
+    told(
+        e,
+        Program::Settings,
+        b"usage: settings < ORDER\n",
+        b"settings: a file",
+    )
+}
+
+// ---- sheets shown, with texts made by another program
+
+fn is_text(made: &[u8; 16384], n: usize, text: &[u8]) -> bool {
+    is_part(made, n, text)
+}
+
+fn shown(t: Tally, sheet: &[u8], text: &[u8]) -> Tally {
+    let mut made = plain::text();
+    let answer = cmd_show::show_sheet(sheet, &mut made);
+    tally::tallied(accepted(t, answer), is_text(&made, answer.count, text))
+}
+
+fn check_shown() -> Tally {
+    let a = shown(
+        tally::none(),
+        b"\x01\x00",
+        b"places 0\nsetting -\norder -\n",
+    );
+    let b = shown(a, b"\x01\x01", b"places 1\nsetting -\norder 0\n");
+    let c = shown(
+        b,
+        b"\x01\x02\x01",
+        b"places 2\nsetting 1\norder 1 0\n   1\n 0 1\n 1 1\n",
+    );
+    let d = shown(
+        c,
+        b"\x01\x03\x06",
+        b"places 3\nsetting 011\norder 1 2 0\n   0 1 1\n 0 0 1 1\n 1 | 1 |\n 2 0 - 1\n",
+    );
+    shown(
+        d,
+        b"\x01\x04\x15",
+        b"places 4\nsetting 10101\norder 1 3 0 2\n   1 0 1 01\n 0 1 0 - 0-\n 1 | 0 - |1\n 2 1 - 1 0|\n 3 - - 1 -1\n",
+    )
+}
+
 fn main() {
     tally::print(b"9 blocks of 1 byte", job(9, 1, 1));
     tally::print(b"5 blocks of 6 bytes", job(5, 6, 2));
@@ -267,6 +365,9 @@ fn main() {
     tally::print(b"blocks refused", bad_blocks());
     tally::print(b"orders refused", bad_orders());
     tally::print(b"draws refused", bad_draws());
-    tally::print(b"arguments", check_arguments());
+    tally::print(b"numbers", check_numbers());
+    tally::print(b"no numbers", check_no_numbers());
     tally::print(b"lines", check_lines());
+    tally::print(b"usage and names", check_told());
+    tally::print(b"sheets shown", check_shown());
 }

@@ -1,23 +1,20 @@
 -- The rows from the log that a mixing wrote are those of the network.
 -- Assumes nothing.
 use mathlib.Core.Path.{_≡_, refl, sym, ap, _∙_}
-use mathlib.Core.Bool.{true}
 use mathlib.Core.List.{List, [], _∷_, _++_}
 use Prim.Native.Nat.{ℕ, zero, suc, _+_, _*_, _≤_, _<_}
-use native.Mathlib.Nat.{mul-one, zero-mul, suc-mul, mul-le-mul-right}
+use native.Mathlib.Nat.{mul-one, suc-mul, mul-le-mul-right}
 use native.Mathlib.Omega.{arith}
 use borrow.Author.Tests.{leb-true}
 use lib.Dec.{leb}
-use lib.ListN.{length, getD, take, drop, length-append}
+use lib.ListN.{length, getD, take, drop, length-append, List·getD-append}
 use lib.Seq.{getD-drop, length-take-le}
 use Rattle.answers.specs.declared.Answer.{Answer}
-use Rattle.answers.specs.Questions.{firstBad, firstBadFrom}
 use Rattle.answers.specs.Buffers.{overlay}
 use Rattle.answers.specs.Outcomes.{Logged, logged}
-use Rattle.answers.proofs.Questions.{all-good}
 use Rattle.answers.proofs.Buffers.{overlay-front}
 use Rattle.bits.specs.Bits.{Bits}
-use Rattle.counts.specs.Counts.{W, byHalves}
+use Rattle.counts.specs.Counts.{W}
 use Rattle.network.specs.Wiring.{paper}
 use Rattle.network.specs.Log.{Entry, entry, entryWords, words, entryAt, applyEntries}
 use Rattle.network.proofs.Shape.{entryAt-front, length-applyEntries}
@@ -26,9 +23,13 @@ use Rattle.permutation.proofs.Tables.{is-tabulate}
 use Rattle.apply.specs.Calls.{applyCall}
 use Rattle.apply.proofs.Asked.{Fits}
 use Rattle.apply.proofs.Outcome.{apply-accepted}
-use Rattle.cmd_lines.specs.Text.{text}
-use Rattle.cmd_picture.specs.Picture.{mark, columns, row, rows, picture}
-use Rattle.cmd_picture.specs.Inner.{markIn, columnsIn, rowIn, rowsIn}
+use Rattle.answers.specs.Buffers.{Put}
+use Rattle.answers.proofs.Putting.{put-then}
+use Rattle.cmd_lines.specs.Text.{text, bitsText}
+use Rattle.cmd_lines.proofs.Lines.{put-kept}
+use Rattle.cmd_picture.specs.Picture.{mark, columns, label, grouped, heading, row, rows, picture}
+use Rattle.cmd_picture.specs.Inner.{markIn, columnsIn, rowsIn}
+use Rattle.cmd_picture.proofs.Grouping.{small, bits-few, grouped-long}
 
 -- ---- columns
 
@@ -63,17 +64,12 @@ module _ (before : List ℕ) (es : List Entry) (bits : List ℕ) (count : length
       (λ e h. columns-at es bits place e (omega arith)
       ∙ ap (λ x. markOf x (getD bits e 0) place) (sym (entry-in e (omega arith)))))
 
-  pub rows-in : (n : ℕ) → rowsIn log bits n ≡ rows es bits n
+  pub rows-in : (m n : ℕ) → rowsIn m log bits n ≡ rows m es bits n
   unfolding rowsIn rows
-  rows-in zero = refl
-  rows-in (suc n) = rw (rows-in n, columns-in n)
+  rows-in m zero = refl
+  rows-in m (suc n) = rw (rows-in m n, columns-in n)
 
 -- ---- the mixing
-
--- at most 49 switches: one computed test
-small : (n : ℕ) → n ≤ 16 → W n ≤ 49
-unfolding firstBadFrom W byHalves
-small n h = leb-true (W n) 49 (all-good (λ m. leb (W m) 49) 17 refl n (omega arith))
 
 pub picture-in :
     (n : ℕ) (bits blocks log : List ℕ) {a : Answer} {after log′ : List ℕ}
@@ -83,7 +79,7 @@ pub picture-in :
     → length blocks ≡ n
     → length log ≡ entryWords * 49
     → logged a after log′ ≡ applyCall n 1 blocks bits log
-    → rowsIn log′ bits n ≡ picture n bits
+    → heading n bits ++ rowsIn n log′ bits n ≡ picture n bits
 unfolding picture
 picture-in n bits blocks log few count areBits long room e =
     let f : Fits n 1 (length blocks) bits (length log) =
@@ -97,24 +93,54 @@ picture-in n bits blocks log few count areBits long room e =
       settings = areBits;
     }
     in
-    rows-in log (applyEntries paper n) bits (count ∙ sym (length-applyEntries paper n))
-    (ap (λ (o : Logged). o .log) (e ∙ apply-accepted n 1 blocks bits log f)) n
+    ap (λ l. heading n bits ++ l)
+    (rows-in log (applyEntries paper n) bits (count ∙ sym (length-applyEntries paper n))
+    (ap (λ (o : Logged). o .log) (e ∙ apply-accepted n 1 blocks bits log f)) n n)
+
+-- the heading and the rows, one behind the other
+module _ (n : ℕ) (bits log : List ℕ) (e : heading n bits ++ rowsIn n log bits n ≡ picture n bits) (a : List ℕ) (at : ℕ) (h : at + length (picture n bits) ≤ length a) where
+  pub heading-room : at + length (heading n bits) ≤ length a
+  heading-room = omega (arith, ap length e, length-append (heading n bits) (rowsIn n log bits n))
+
+  module _ {r : ℕ} {b : List ℕ} (P : Put a at (heading n bits) r b) where
+    pub rows-room : r + length (rowsIn n log bits n) ≤ length b
+    rows-room = omega (arith, ap length e, length-append (heading n bits) (rowsIn n log bits n), P .place, put-kept heading-room P)
+
+    pub picture-put : {q : ℕ} {c : List ℕ} → Put b r (rowsIn n log bits n) q c → Put a at (picture n bits) q c
+    picture-put Q = rw (← e) (put-then heading-room P Q)
 
 -- room in the log for each switch
 pub log-room : (n : ℕ) (bits log : List ℕ) → n ≤ 16 → length bits ≡ W n → length log ≡ entryWords * 49 → entryWords * length bits ≤ length log
 log-room n bits log h e l = omega (arith, small n h)
 
--- how long the text gets: a row is four bytes and one for each switch
-rows-long : (es : List Entry) (bits : List ℕ) (n : ℕ) → length (rows es bits n) ≡ n * (4 + length es)
-unfolding rows
-rows-long es bits zero = sym (zero-mul (4 + length es))
-rows-long es bits (suc n) =
-    length-append (rows es bits n) (row es bits n)
-    ∙ (let one : length (row es bits n) ≡ 4 + length es = omega (arith, length-append (columns es bits n) (text "\n"), columns-length es bits n) in
-    rw (rows-long es bits n, one) (sym (suc-mul n (4 + length es))))
+-- how long the text gets: a line is four bytes, one for each switch and at most three gaps
+line-long : (m : ℕ) (front cs : List ℕ) → length front ≡ 3 → length (front ++ (grouped m cs ++ text "\n")) ≤ 7 + length cs
+line-long m front cs e = simp length-append (omega (arith, grouped-long m cs))
 
-pub picture-length : (n : ℕ) (bits : List ℕ) → n ≤ 16 → length (picture n bits) ≤ 848
+rows-long : (m : ℕ) (es : List Entry) (bits : List ℕ) (n : ℕ) → length (rows m es bits n) ≤ n * (7 + length es)
+unfolding rows
+rows-long m es bits zero = omega arith
+rows-long m es bits (suc n) =
+    omega (
+      arith,
+      length-append (rows m es bits n) (row m es bits n),
+      line-long m (label n) (columns es bits n) refl,
+      columns-length es bits n,
+      rows-long m es bits n,
+      suc-mul n (7 + length es),
+    )
+
+pub picture-length : (n : ℕ) (bits : List ℕ) → n ≤ 16 → length bits ≡ W n → length (picture n bits) ≤ 952
 unfolding picture
-picture-length n bits h =
-    let w = 4 + length (applyEntries paper n) in
-    omega (arith, rows-long (applyEntries paper n) bits n, mul-le-mul-right w h, length-applyEntries paper n, small n h)
+picture-length n bits h e =
+    let es = applyEntries paper n in
+    omega (
+      arith,
+      length-append (heading n bits) (rows n es bits n),
+      line-long n (text "   ") (bitsText bits) refl,
+      bits-few n bits h e,
+      rows-long n es bits n,
+      mul-le-mul-right (7 + length es) h,
+      length-applyEntries paper n,
+      small n h,
+    )

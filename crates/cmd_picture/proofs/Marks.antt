@@ -3,21 +3,18 @@
 use mathlib.Core.Path.{_≡_, refl, sym, ap, _∙_}
 use mathlib.Core.Bool.{Bool, true, false, _||_}
 use mathlib.Core.List.{List, [], _∷_, _++_}
-use Prim.Native.Nat.{ℕ, zero, suc, _+_, _*_, _/_, _%_, _≤_, _<_}
-use native.Mathlib.Nat.{zero-mul, suc-mul}
+use Prim.Native.Nat.{ℕ, zero, suc, _+_, _/_, _%_, _≤_, _<_}
 use native.Mathlib.Numerals.{add-one}
 use native.Mathlib.Omega.{arith}
+use native.Mathlib.Decide.{decLt}
 use borrow.Author.Tests.{eq-eqb, ne-eqb, lt-ltb, le-ltb}
 use lib.Dec.{eqb}
-use lib.ListN.{length, getD, length-append}
+use lib.ListN.{length, length-append}
 use Rattle.answers.specs.Buffers.{Put}
 use Rattle.answers.proofs.Putting.{put-none, put-then}
-use Rattle.network.proofs.Blocks.{block-ends}
-use Rattle.permutation.proofs.Tables.{length-tabulate}
-use Rattle.cmd_lines.specs.Text.{text, character}
-use Rattle.cmd_lines.proofs.Lines.{put-kept}
+use Rattle.cmd_lines.specs.Text.{character}
 use Rattle.cmd_picture.specs.Picture.{mark, highDigit, label}
-use Rattle.cmd_picture.specs.Inner.{markIn, columnsIn, rowIn, rowsIn}
+use Rattle.cmd_picture.specs.Inner.{rowIn, rowsIn}
 
 either : (a : Bool) → (a || true) ≡ true
 either true = refl
@@ -48,44 +45,41 @@ two-digits place h = rw (highDigit, le-ltb place 10 h)
 
 -- ---- rows
 
-module _ (log bits : List ℕ) where
-  pub row-length : (place : ℕ) → length (rowIn log bits place) ≡ 4 + length bits
-  row-length place =
-      omega (arith, length-append (columnsIn log bits place) (text "\n"), length-tabulate (markIn log bits place) (length bits))
-
-  rows-more : (place : ℕ) → rowsIn log bits (place + 1) ≡ rowsIn log bits place ++ rowIn log bits place
+module _ (m : ℕ) (log bits : List ℕ) where
+  rows-more : (place : ℕ) → rowsIn m log bits (place + 1) ≡ rowsIn m log bits place ++ rowIn m log bits place
   unfolding rowsIn
   rows-more place = rw (add-one place)
 
-  rows-length : (n : ℕ) → length (rowsIn log bits n) ≡ n * (4 + length bits)
+  -- a row, and those before it, are among the first n
+  rows-within : (n place : ℕ) → place < n → length (rowsIn m log bits place) + length (rowIn m log bits place) ≤ length (rowsIn m log bits n)
   unfolding rowsIn
-  rows-length zero = sym (zero-mul (4 + length bits))
-  rows-length (suc n) = length-append (rowsIn log bits n) (rowIn log bits n) ∙ rw (rows-length n, row-length n) (sym (suc-mul n (4 + length bits)))
+  rows-within zero place h = absurd (omega arith)
+  rows-within (suc n) place h = go (decLt place n) (rows-within n place)
+    where
+      go :
+          Dec (place < n)
+          → (place < n → length (rowsIn m log bits place) + length (rowIn m log bits place) ≤ length (rowsIn m log bits n))
+          → length (rowsIn m log bits place) + length (rowIn m log bits place) ≤ length (rowsIn m log bits n ++ rowIn m log bits n)
+      go (yes l) before = omega (arith, before l, length-append (rowsIn m log bits n) (rowIn m log bits n))
+      go (no l) before =
+          let e : place ≡ n = omega arith in
+          rw e (omega (arith, length-append (rowsIn m log bits n) (rowIn m log bits n)))
 
   -- what the loop of `put_rows` keeps
   pub record Rowing (n : ℕ) (before : List ℕ) (at : ℕ) (out : List ℕ) (end place : ℕ) : Type 0 where
     pub within : place ≤ n
     pub same : length out ≡ length before
-    pub put : Put before at (rowsIn log bits place) end out
+    pub put : Put before at (rowsIn m log bits place) end out
 
   pub rowing-starts : (n : ℕ) (before : List ℕ) (at : ℕ) → Rowing n before at before at 0
   unfolding rowsIn
   rowing-starts n before at = record { within = omega arith; same = refl; put = put-none before at }
 
-  module _ (n : ℕ) (before : List ℕ) (at : ℕ) (room : at + length (rowsIn log bits n) ≤ length before) {out : List ℕ} {end place : ℕ} (R : Rowing n before at out end place) where
-    pub row-room : place < n → end + length (rowIn log bits place) ≤ length out
-    row-room h =
-        omega (
-          arith,
-          R .put .place,
-          R .same,
-          rows-length place,
-          row-length place,
-          rows-length n,
-          block-ends (4 + length bits) n place h,
-        )
+  module _ (n : ℕ) (before : List ℕ) (at : ℕ) (room : at + length (rowsIn m log bits n) ≤ length before) {out : List ℕ} {end place : ℕ} (R : Rowing n before at out end place) where
+    pub row-room : place < n → end + length (rowIn m log bits place) ≤ length out
+    row-room h = omega (arith, R .put .place, R .same, rows-within n place h)
 
-    pub rowing-more : {r : ℕ} {after : List ℕ} → place < n → length after ≡ length out → Put out end (rowIn log bits place) r after → Rowing n before at after r (place + 1)
+    pub rowing-more : {r : ℕ} {after : List ℕ} → place < n → length after ≡ length out → Put out end (rowIn m log bits place) r after → Rowing n before at after r (place + 1)
     rowing-more h e P =
         record {
           within = omega arith;
@@ -93,5 +87,5 @@ module _ (log bits : List ℕ) where
           put = rw (rows-more place) (put-then (omega (arith, row-room h, R .put .place, R .same)) (R .put) P);
         }
 
-    pub rowing-ends : n ≤ place → Put before at (rowsIn log bits n) end out
+    pub rowing-ends : n ≤ place → Put before at (rowsIn m log bits n) end out
     rowing-ends h = let e : place ≡ n = omega (arith, R .within) in rw e at (R .put)

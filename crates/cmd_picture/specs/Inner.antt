@@ -6,7 +6,7 @@ use lib.ListN.{length, getD}
 use Rattle.network.specs.Log.{entryAt}
 use Rattle.permutation.specs.Permutations.{tabulate}
 use Rattle.cmd_lines.specs.Text.{text}
-use Rattle.cmd_picture.specs.Picture.{mark, label}
+use Rattle.cmd_picture.specs.Picture.{mark, label, grouped}
 
 abbrev pub markIn : List ℕ → List ℕ → ℕ → ℕ → ℕ
 markIn log bits place e = mark (entryAt log e .first) (entryAt log e .second) (getD bits e 0) place
@@ -14,9 +14,9 @@ markIn log bits place e = mark (entryAt log e .first) (entryAt log e .second) (g
 abbrev pub columnsIn : List ℕ → List ℕ → ℕ → List ℕ
 columnsIn log bits place = tabulate (markIn log bits place) (length bits)
 
-abbrev pub rowIn : List ℕ → List ℕ → ℕ → List ℕ
-rowIn log bits place = label place ++ (columnsIn log bits place ++ text "\n")
+abbrev pub rowIn : ℕ → List ℕ → List ℕ → ℕ → List ℕ
+rowIn n log bits place = label place ++ (grouped n (columnsIn log bits place) ++ text "\n")
 
-unfoldable pub rowsIn : List ℕ → List ℕ → ℕ → List ℕ
-rowsIn log bits zero = []
-rowsIn log bits (suc place) = rowsIn log bits place ++ rowIn log bits place
+unfoldable pub rowsIn : ℕ → List ℕ → List ℕ → ℕ → List ℕ
+rowsIn n log bits zero = []
+rowsIn n log bits (suc place) = rowsIn n log bits place ++ rowIn n log bits place

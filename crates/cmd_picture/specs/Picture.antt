@@ -1,14 +1,16 @@
--- A network under a setting as text: one row a place, one column a switch, in the sequence of the bits.
+-- A network under a setting as text: one row a place, one column a switch, in the sequence of the bits. The bits stand above
+-- their columns, and a gap between those of the network's input switches, its top, its bottom and its output switches.
 -- Assumes nothing: these are definitions.
 use mathlib.Core.Bool.{Bool, true, false, _&&_, _||_}
 use mathlib.Core.List.{List, [], _∷_, _++_}
-use Prim.Native.Nat.{ℕ, zero, suc, _+_, _/_, _%_}
+use Prim.Native.Nat.{ℕ, zero, suc, _+_, _-_, _/_, _%_}
 use Prim.Native.Char.{code}
 use lib.Dec.{ltb, eqb}
-use lib.ListN.{getD, drop}
+use lib.ListN.{getD, take, drop}
+use Rattle.counts.specs.Counts.{W, up}
 use Rattle.network.specs.Wiring.{paper}
 use Rattle.network.specs.Log.{Entry, applyEntries}
-use Rattle.cmd_lines.specs.Text.{text, character}
+use Rattle.cmd_lines.specs.Text.{text, character, bitsText}
 
 -- what the switch on two places shows at a place: its bit at the two, a bar between them, elsewhere the wire
 abbrev pub mark : ℕ → ℕ → ℕ → ℕ → ℕ
@@ -30,14 +32,44 @@ highDigit place = elim (ltb place 10) [ true ↦ code " " | false ↦ code "0" +
 abbrev pub label : ℕ → List ℕ
 label place = highDigit place ∷ (code "0" + place % 10) ∷ code " " ∷ []
 
-abbrev pub row : List Entry → List ℕ → ℕ → List ℕ
-row es bits place = label place ++ (columns es bits place ++ text "\n")
+-- ---- gaps
+
+-- the columns of some switches and a gap behind them: nothing where there is no switch
+unfoldable pub group : List ℕ → List ℕ
+group [] = []
+group (c ∷ cs) = c ∷ (cs ++ text " ")
+
+-- columns in four groups, by the columns with which the second, the third and the fourth begin
+abbrev pub groups : ℕ → ℕ → ℕ → List ℕ → List ℕ
+groups a b c cs = group (take a cs) ++ (group (take (b - a) (drop a cs)) ++ (group (take (c - b) (drop b cs)) ++ drop c cs))
+
+-- those of a network of n places: its input switches, top, bottom and output switches
+abbrev pub topAt : ℕ → ℕ
+topAt n = up n - 1
+
+abbrev pub bottomAt : ℕ → ℕ
+bottomAt n = topAt n + W (up n)
+
+abbrev pub outputAt : ℕ → ℕ
+outputAt n = bottomAt n + W (n - up n)
+
+unfoldable pub grouped : ℕ → List ℕ → List ℕ
+grouped n cs = groups (topAt n) (bottomAt n) (outputAt n) cs
+
+-- ---- lines
+
+-- the bits, each above its column
+abbrev pub heading : ℕ → List ℕ → List ℕ
+heading n bits = text "   " ++ (grouped n (bitsText bits) ++ text "\n")
+
+abbrev pub row : ℕ → List Entry → List ℕ → ℕ → List ℕ
+row n es bits place = label place ++ (grouped n (columns es bits place) ++ text "\n")
 
 -- the rows of the first places
-unfoldable pub rows : List Entry → List ℕ → ℕ → List ℕ
-rows es bits zero = []
-rows es bits (suc place) = rows es bits place ++ row es bits place
+unfoldable pub rows : ℕ → List Entry → List ℕ → ℕ → List ℕ
+rows n es bits zero = []
+rows n es bits (suc place) = rows n es bits place ++ row n es bits place
 
 -- the network of n places
 unfoldable pub picture : ℕ → List ℕ → List ℕ
-picture n bits = rows (applyEntries paper n) bits n
+picture n bits = heading n bits ++ rows n (applyEntries paper n) bits n

@@ -35,9 +35,9 @@ fn put_setting(out: &mut [u8], n: usize, bits: &[u8]) -> usize
     put_rest(out, b, n, bits)
 }
 
-// The order and the picture: 7,000 bytes are enough.
+// The order and the picture: 6,152 and 952 bytes are enough.
 fn put_rest(out: &mut [u8], at: usize, n: usize, bits: &[u8]) -> usize
-    requires { ⌜ (n ≤ 1024) × (W n ≤ 9217) × (length (now bits) ≡ W n) × Bits (now bits) × (at + 7000 ≤ length (now out)) ⌝ }
+    requires { ⌜ (n ≤ 1024) × (W n ≤ 9217) × (length (now bits) ≡ W n) × Bits (now bits) × (at + 7104 ≤ length (now out)) ⌝ }
     ensures { λ r. ⌜ Put (now (out .entry)) at (line "order" (orderText (orderOf paper n (now (bits .entry))))
         ++ pictured n (now (bits .entry))) r (now (out .exit)) ⌝ }
 {
@@ -48,7 +48,7 @@ fn put_rest(out: &mut [u8], at: usize, n: usize, bits: &[u8]) -> usize
 }
 
 fn put_pictured(out: &mut [u8], at: usize, n: usize, bits: &[u8]) -> usize
-    requires { ⌜ (length (now bits) ≡ W n) × Bits (now bits) × (at + 848 ≤ length (now out)) ⌝ }
+    requires { ⌜ (length (now bits) ≡ W n) × Bits (now bits) × (at + 952 ≤ length (now out)) ⌝ }
     ensures { λ r. ⌜ Put (now (out .entry)) at (pictured n (now (bits .entry))) r (now (out .exit)) ⌝ }
 {
     if n < 2 {

@@ -1,17 +1,33 @@
 // `mix SHEET WIDTH`: moves the blocks on standard input, each of WIDTH bytes, forward by the sheet in the file SHEET (01: mix).
-// A byte more than the longest sheet is read, so that a surplus shows.
-use libc::STDIN_FILENO;
+// A byte more than the longest sheet, of 1,320, is read, so that a surplus shows.
+use cmd_console::Argument;
+use cmd_console::Program;
 
 fn mix(sheet: &[u8], width: usize, blocks: &mut [u8]) {
     let answer = cmd_move::mix(sheet, width, blocks);
-    cmd_console::finish(answer, blocks);
+    cmd_console::finish(Program::Mix, answer, blocks);
+}
+
+fn read(sheet: &[u8], width: usize) {
+    let mut blocks = cmd_console::blocks_buffer();
+    let got = cmd_console::read_input(Program::Mix, &mut blocks);
+    if got.failed {
+        return;
+    }
+    let n = got.count;
+    mix(sheet, width, &mut blocks[..n]);
 }
 
 fn main() {
-    let mut sheet = [0u8; 1322];
-    let s = cmd_console::read_named(1, &mut sheet);
-    let width = cmd_console::number_argument(2);
-    let mut blocks = cmd_console::blocks_buffer();
-    let b = io::read_full(STDIN_FILENO, &mut blocks);
-    mix(&sheet[..s], width, &mut blocks[..b]);
+    let last = cmd_console::last_number(Program::Mix, 2);
+    let Argument::Number(width) = last else {
+        return;
+    };
+    let mut sheet = [0u8; 1321];
+    let got = cmd_console::read_named(Program::Mix, 1, &mut sheet);
+    if got.failed {
+        return;
+    }
+    let n = got.count;
+    read(&sheet[..n], width);
 }

@@ -1,11 +1,21 @@
 // The program `settings`: an order on standard input, its setting on standard output (01, 'Month cases').
-use libc::STDIN_FILENO;
-use libc::STDOUT_FILENO;
+use cmd_console::Program;
+
+fn settings(input: &[u8]) {
+    let mut text = [0u8; 9252];
+    let end = cmd_settings::settings_text(input, &mut text);
+    cmd_console::write_output(Program::Settings, &text[..end]);
+}
 
 fn main() {
+    if cmd_console::misused(Program::Settings, 0) {
+        return;
+    }
     let mut input = [0u8; 2051];
-    let n = io::read_full(STDIN_FILENO, &mut input);
-    let mut text = [0u8; 9252];
-    let end = cmd_settings::settings_text(&input[..n], &mut text);
-    io::write_all(STDOUT_FILENO, &text[..end]);
+    let got = cmd_console::read_input(Program::Settings, &mut input);
+    if got.failed {
+        return;
+    }
+    let n = got.count;
+    settings(&input[..n]);
 }

@@ -1,15 +1,22 @@
 // `sheet`: the sheet of the order on standard input (01: set, write sheet), which is read as `settings` reads it.
-use libc::STDIN_FILENO;
+use cmd_console::Program;
 
 fn sheet(input: &[u8]) {
     let mut made = [0u8; 1321];
     let answer = cmd_sheet::order_sheet(input, &mut made);
     let n = answer.count;
-    cmd_console::finish(answer, &made[..n]);
+    cmd_console::finish(Program::Sheet, answer, &made[..n]);
 }
 
 fn main() {
+    if cmd_console::misused(Program::Sheet, 0) {
+        return;
+    }
     let mut input = [0u8; 2051];
-    let n = io::read_full(STDIN_FILENO, &mut input);
+    let got = cmd_console::read_input(Program::Sheet, &mut input);
+    if got.failed {
+        return;
+    }
+    let n = got.count;
     sheet(&input[..n]);
 }

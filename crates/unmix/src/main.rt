@@ -1,18 +1,34 @@
 // `unmix SHEET WIDTH`: moves the blocks on standard input, each of WIDTH bytes, backward by the sheet in the file SHEET (01:
 // return).
-// A byte more than the longest sheet is read, so that a surplus shows.
-use libc::STDIN_FILENO;
+// A byte more than the longest sheet, of 1,320, is read, so that a surplus shows.
+use cmd_console::Argument;
+use cmd_console::Program;
 
 fn unmix(sheet: &[u8], width: usize, blocks: &mut [u8]) {
     let answer = cmd_move::unmix(sheet, width, blocks);
-    cmd_console::finish(answer, blocks);
+    cmd_console::finish(Program::Unmix, answer, blocks);
+}
+
+fn read(sheet: &[u8], width: usize) {
+    let mut blocks = cmd_console::blocks_buffer();
+    let got = cmd_console::read_input(Program::Unmix, &mut blocks);
+    if got.failed {
+        return;
+    }
+    let n = got.count;
+    unmix(sheet, width, &mut blocks[..n]);
 }
 
 fn main() {
-    let mut sheet = [0u8; 1322];
-    let s = cmd_console::read_named(1, &mut sheet);
-    let width = cmd_console::number_argument(2);
-    let mut blocks = cmd_console::blocks_buffer();
-    let b = io::read_full(STDIN_FILENO, &mut blocks);
-    unmix(&sheet[..s], width, &mut blocks[..b]);
+    let last = cmd_console::last_number(Program::Unmix, 2);
+    let Argument::Number(width) = last else {
+        return;
+    };
+    let mut sheet = [0u8; 1321];
+    let got = cmd_console::read_named(Program::Unmix, 1, &mut sheet);
+    if got.failed {
+        return;
+    }
+    let n = got.count;
+    read(&sheet[..n], width);
 }

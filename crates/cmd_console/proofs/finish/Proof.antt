@@ -1,4 +1,4 @@
--- `console::finish` meets its contract.
+-- `cmd_console::finish` meets its contract.
 -- Assumes nothing.
 use mathlib.Core.Path.{sym}
 use lib.Seq.{length-take-le}
@@ -9,17 +9,11 @@ use Rattle.cmd_console.proofs.finish.Tie as tie
 output-length-requires : tie.Need-output-length-requires
 output-length-requires c κs = search needs
 
-slice-aggregate-write-all : tie.Need-slice-aggregate-write-all
-slice-aggregate-write-all c = sym (length-take-le _ _ (c .before .output-length .ensures .1))
+slice-aggregate-write-output : tie.Need-slice-aggregate-write-output
+slice-aggregate-write-output c = sym (length-take-le _ _ (c .before .output-length .ensures .1))
 
-write-all-requires : tie.Need-write-all-requires
-write-all-requires c κs = search needs
-
-slice-aggregate-fail : tie.Need-slice-aggregate-fail
-slice-aggregate-fail c = search needs
-
-fail-requires : tie.Need-fail-requires
-fail-requires c κs = search needs
+write-output-requires : tie.Need-write-output-requires
+write-output-requires c κs = search needs
 
 write-error-requires : tie.Need-write-error-requires
 write-error-requires c κs = search needs
@@ -32,9 +26,7 @@ finish-spec =
     tie.close
     (tie.spec
     output-length-requires
-    slice-aggregate-write-all
-    write-all-requires
-    slice-aggregate-fail
-    fail-requires
+    slice-aggregate-write-output
+    write-output-requires
     write-error-requires
     returns)

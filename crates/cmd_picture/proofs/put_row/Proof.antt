@@ -1,37 +1,50 @@
--- `picture::put_row` meets its contract.
+-- `cmd_picture::put_row` meets its contract.
 -- Assumes nothing.
-use Rattle.cmd_lines.specs.Text.{text}
-use Rattle.cmd_lines.proofs.Lines.{room-second, room-third, put-three}
-use Rattle.cmd_picture.specs.Inner.{columnsIn}
+use mathlib.Core.Path.{sym, ap, _∙_}
+use native.Mathlib.Omega.{arith}
+use lib.ListN.{length}
+use lib.Seq.{length-take-le}
+use Rattle.answers.proofs.Putting.{put-front, put-within, put-then}
+use Rattle.permutation.proofs.Tables.{length-tabulate}
+use Rattle.cmd_picture.specs.Inner.{markIn}
+use Rattle.cmd_picture.proofs.Grouping.{small}
 use borrow.Author.Needs.{needs}
 use Rattle.cmd_picture.proofs.put_row.Statement.{statement}
 use Rattle.cmd_picture.proofs.put_row.Tie as tie
 
+slice-aggregate-put-columns : tie.Need-slice-aggregate-put-columns
+slice-aggregate-put-columns c = search needs
+
+put-columns-requires : tie.Need-put-columns-requires
+put-columns-requires c κs = let s = c .before .before .before .before in (s .pre .4, omega (arith, length-tabulate (markIn (s .args .log .now) (s .args .bits .now) (s .args .place)) (length (s .args .bits .now)), small (s .args .n) (s .pre .1), s .pre .3))
+
 put-label-requires : tie.Need-put-label-requires
 put-label-requires c κs = search needs
 
-put-columns-requires : tie.Need-put-columns-requires
-put-columns-requires c κs = let s = c .before .before .before .before .before .before .before .before in (s .pre .1, room-second (columnsIn (s .args .log .now) (s .args .bits .now) (s .args .place)) (text "\n") (c .before .before .before .put-label .ensures) (s .pre .2))
+array-share-prefix-columns : tie.Need-array-share-prefix-columns
+array-share-prefix-columns c = put-within (c .before .before .before .before .before .before .put-columns .ensures)
 
-slice-aggregate-put-text : tie.Need-slice-aggregate-put-text
-slice-aggregate-put-text c = search needs
+slice-aggregate-put-line : tie.Need-slice-aggregate-put-line
+slice-aggregate-put-line c = sym (length-take-le _ _ (put-within (c .before .before .before .before .before .before .before .put-columns .ensures)))
 
-put-text-requires : tie.Need-put-text-requires
-put-text-requires c κs = let s = c .before .before .before .before .before .before .before .before .before .before .before .before .before in room-third (columnsIn (s .args .log .now) (s .args .bits .now) (s .args .place)) (text "\n") (c .before .before .before .before .before .before .before .before .put-label .ensures) (s .pre .2) (c .before .before .before .before .put-columns .ensures)
+put-line-requires : tie.Need-put-line-requires
+put-line-requires c κs = let s = c .before .before .before .before .before .before .before .before .before .before .before .before in let e = put-front (c .before .before .before .before .before .before .before .put-columns .ensures) in (s .pre .0, s .pre .1, ap length e ∙ length-tabulate (markIn (s .args .log .now) (s .args .bits .now) (s .args .place)) (length (s .args .bits .now)) ∙ s .pre .3, rw e (omega (arith, s .pre .5, c .before .before .before .before .put-label .ensures .place, c .before .before .before .before .put-label .kept)))
 
 same-length : tie.Need-same-length
 same-length c = search needs
 
 returns : tie.Need-returns
-returns c = let s = c .before .before .before .before .before .before .before .before .before .before .before .before .before .before .before .before in put-three (columnsIn (s .args .log .now) (s .args .bits .now) (s .args .place)) (text "\n") (c .before .before .before .before .before .before .before .before .before .before .before .put-label .ensures) (s .pre .2) (c .before .before .before .before .before .before .before .put-columns .ensures) (c .before .before .put-text .ensures)
+returns c = let s = c .before .before .before .before .before .before .before .before .before .before .before .before .before .before .before in put-then (omega (arith, s .pre .5)) (c .before .before .before .before .before .before .before .put-label .ensures) (rw (put-front (c .before .before .before .before .before .before .before .before .before .before .put-columns .ensures)) at (c .before .before .put-line .ensures))
 
 pub put-row-spec : {M : Type 1} → statement M
 put-row-spec =
     tie.close
     (tie.spec
-    put-label-requires
+    slice-aggregate-put-columns
     put-columns-requires
-    slice-aggregate-put-text
-    put-text-requires
+    put-label-requires
+    array-share-prefix-columns
+    slice-aggregate-put-line
+    put-line-requires
     same-length
     returns)

@@ -15,7 +15,7 @@ returns-2 : tie.Need-returns-2
 returns-2 c = rw (many-places (c .before .before .before .before .args .n) (c .before .before .before .before .args .bits .now) (c .before .if1 .left) (c .if2 .taken)) (put-none _ _)
 
 put-picture-requires : tie.Need-put-picture-requires
-put-picture-requires c κs = let s = c .before .before .before .before .before in (c .before .if2 .left, s .pre .0, s .pre .1, omega (arith, s .pre .2, picture-length (s .args .n) (s .args .bits .now) (c .before .if2 .left)))
+put-picture-requires c κs = let s = c .before .before .before .before .before in (c .before .before .if1 .left, c .before .if2 .left, s .pre .0, s .pre .1, omega (arith, s .pre .2, picture-length (s .args .n) (s .args .bits .now) (c .before .if2 .left) (s .pre .0)))
 
 same-length : tie.Need-same-length
 same-length c = search needs

@@ -7,8 +7,17 @@ use borrow.Author.Needs.{needs}
 use Rattle.draw.proofs.main.Statement.{statement}
 use Rattle.draw.proofs.main.Tie as tie
 
-number-argument-requires : tie.Need-number-argument-requires
-number-argument-requires c κs = search needs
+last-number-requires : tie.Need-last-number-requires
+last-number-requires c κs = search needs
+
+enum-known-last : tie.Need-enum-known-last
+enum-known-last c = search needs
+
+enum-told : tie.Need-enum-told
+enum-told c = search needs
+
+returns : tie.Need-returns
+returns c = search needs
 
 bytes-for-requires : tie.Need-bytes-for-requires
 bytes-for-requires c κs = search needs
@@ -22,16 +31,19 @@ slice-aggregate-read c = sym (length-take-le _ _ (omega (arith, c .before .bytes
 read-requires : tie.Need-read-requires
 read-requires c κs = search needs
 
-returns : tie.Need-returns
-returns c = search needs
+returns-2 : tie.Need-returns-2
+returns-2 c = search needs
 
 pub main-spec : {M : Type 1} → statement M
 main-spec =
     tie.close
     (tie.spec
-    number-argument-requires
+    last-number-requires
+    enum-known-last
+    enum-told
+    returns
     bytes-for-requires
     array-borrow-prefix-bytes
     slice-aggregate-read
     read-requires
-    returns)
+    returns-2)

@@ -1,0 +1,40 @@
+-- `cmd_picture::put_group` meets its contract.
+-- Assumes nothing.
+use mathlib.Core.Path.{ap}
+use native.Mathlib.Omega.{arith}
+use lib.ListN.{length, length-append}
+use Rattle.answers.proofs.Putting.{put-none, put-then}
+use Rattle.cmd_lines.specs.Text.{text}
+use Rattle.cmd_picture.proofs.Grouping.{group-none, group-some}
+use borrow.Author.Needs.{needs}
+use Rattle.cmd_picture.proofs.put_group.Statement.{statement}
+use Rattle.cmd_picture.proofs.put_group.Tie as tie
+
+returns : tie.Need-returns
+returns c = rw (group-none (c .before .before .before .args .columns .now) (c .if1 .taken)) (put-none _ _)
+
+put-text-requires : tie.Need-put-text-requires
+put-text-requires c κs = let cs = c .before .before .before .before .args .columns .now in omega (arith, c .before .before .before .before .pre, ap length (group-some cs (c .before .if1 .left)), length-append cs (text " "))
+
+slice-aggregate-put-text : tie.Need-slice-aggregate-put-text
+slice-aggregate-put-text c = search needs
+
+put-text-requires-2 : tie.Need-put-text-requires-2
+put-text-requires-2 c κs = let cs = c .before .before .before .before .before .before .before .before .before .args .columns .now in omega (arith, c .before .before .before .before .before .before .before .before .before .pre, c .before .before .before .before .put-text .ensures .place, c .before .before .before .before .put-text .kept, ap length (group-some cs (c .before .before .before .before .before .before .if1 .left)), length-append cs (text " "))
+
+same-length : tie.Need-same-length
+same-length c = search needs
+
+returns-2 : tie.Need-returns-2
+returns-2 c = let cs = c .before .before .before .before .before .before .before .before .before .before .before .before .args .columns .now in rw (group-some cs (c .before .before .before .before .before .before .before .before .before .if1 .left)) (put-then (omega (arith, c .before .before .before .before .before .before .before .before .before .before .before .before .pre, ap length (group-some cs (c .before .before .before .before .before .before .before .before .before .if1 .left)), length-append cs (text " "))) (c .before .before .before .before .before .before .before .put-text .ensures) (c .before .before .put-text2 .ensures))
+
+pub put-group-spec : {M : Type 1} → statement M
+put-group-spec =
+    tie.close
+    (tie.spec
+    returns
+    put-text-requires
+    slice-aggregate-put-text
+    put-text-requires-2
+    same-length
+    returns-2)

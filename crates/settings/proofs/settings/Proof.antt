@@ -1,0 +1,33 @@
+-- `settings::settings` meets its contract.
+-- Assumes nothing.
+use mathlib.Core.Path.{sym}
+use lib.Seq.{length-take-le}
+use Rattle.cmd_settings.proofs.Printing.{text-fits}
+use borrow.Author.Needs.{needs}
+use Rattle.settings.proofs.settings.Statement.{statement}
+use Rattle.settings.proofs.settings.Tie as tie
+
+settings-text-requires : tie.Need-settings-text-requires
+settings-text-requires c κs = search needs
+
+array-share-prefix-text : tie.Need-array-share-prefix-text
+array-share-prefix-text c = text-fits _ _ (c .settings-text .ensures)
+
+slice-aggregate-write-output : tie.Need-slice-aggregate-write-output
+slice-aggregate-write-output c = sym (length-take-le _ _ (text-fits _ _ (c .before .settings-text .ensures)))
+
+write-output-requires : tie.Need-write-output-requires
+write-output-requires c κs = search needs
+
+returns : tie.Need-returns
+returns c = search needs
+
+pub settings-spec : {M : Type 1} → statement M
+settings-spec =
+    tie.close
+    (tie.spec
+    settings-text-requires
+    array-share-prefix-text
+    slice-aggregate-write-output
+    write-output-requires
+    returns)
