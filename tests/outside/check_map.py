@@ -1,6 +1,7 @@
 #!/usr/bin/env python3
 """Every name in docs/MAP.md exists: a definition or law in the crate's specs/ or proofs/, a function in its src/, an edit in its
-must-fail/. A name belongs to the crate named last before it in its cell; one before any crate may stand anywhere."""
+must-fail/. A name belongs to the crate named last before it in its cell; one before any crate may stand anywhere. The files of the
+reading list have as many lines as it says."""
 import pathlib
 import re
 import sys
@@ -51,6 +52,12 @@ def main():
         if not line.startswith('|') or set(line) <= set('|- '):
             continue
         for cell in line.strip('|').split('|')[1:]:
+            for name, lines in re.findall(r'`(\w+/specs/\w+\.antt)` (\d+)', cell):
+                seen += 1
+                path = root / 'crates' / name
+                if not path.is_file() or len(text(path).splitlines()) != int(lines):
+                    missing.append((number, f'{name} with {lines} lines'))
+            cell = re.sub(r'`\w+/specs/\w+\.antt` \d+', '', cell)
             crate = None
             for token in re.findall(r'`[^`]+`|[A-Za-z_]\w*', cell):
                 name = token.strip('`')
