@@ -77,12 +77,33 @@ def signals(door):
             for to_group in True, False:
                 end = interrupted_in(door, program, number, to_group, made)
                 same(end, 3 if number == signal.SIGQUIT and door.shell == 'bash' else -number, 'ended by the signal')  # bash cannot be quit
+    for tool in 'link', 'sync', 'rm':  # while the results get their names, and after it
+        interrupted_at(door, tool, rng.choice(numbers), made)
     for _ in range(60):
         number = rng.choice(numbers)
         door.fresh(month=rng.randbytes(6000))
         process = door.start('mix', '6', 'month', start_new_session=True)
         time.sleep(rng.random() * 0.08)
         interrupted(door, process, number, rng.random() < 0.5, f'signal {number} at random', made)
+
+
+def interrupted_at(door, tool, number, made):
+    """A signal while a tool of the system, which takes its time, is at work: before the month is told of nothing stays, then all does."""
+    tools, reached = door.home + '/tools', door.home + '/reached'
+    os.mkdir(tools)
+    with open(f'{tools}/{tool}', 'w') as f:
+        f.write(f"#!/bin/sh\n'{shutil.which(tool)}' \"$@\"; status=$?; cd . >'{reached}'; sleep 0.2; exit $status\n")
+    os.chmod(f'{tools}/{tool}', 0o755)
+    door.fresh(month=b'abcdef')
+    process = door.start('mix', '2', 'month', env=os.environ | {'PATH': f'{tools}:{os.environ["PATH"]}'})
+    while not os.path.exists(reached) and process.poll() is None:
+        time.sleep(0.01)
+    same(set(door.files()) >= {'month', 'month.sheet'}, True, f'{tool} was reached')
+    process.send_signal(number)
+    told = process.communicate()[0]
+    same((bool(told), door.files()), (tool == 'rm', {'month': 0o644} | (made if tool == 'rm' else {})), f'signal {number} in {tool}')
+    shutil.rmtree(tools)
+    os.remove(reached)
 
 
 def interrupted_in(door, program, number, to_group, made):
