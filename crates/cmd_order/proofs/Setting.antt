@@ -17,7 +17,7 @@ use Rattle.answers.proofs.Outcomes.{accepted-when, ends-accepted}
 use Rattle.answers.proofs.Buffers.{overlay-whole, overlay-front}
 use Rattle.counts.specs.Counts.{W, E}
 use Rattle.network.specs.Wiring.{paper}
-use Rattle.network.specs.Log.{words}
+use Rattle.network.specs.Log.{entryWords, words}
 use Rattle.network.proofs.Paper.{paper-lawful}
 use Rattle.permutation.specs.Permutations.{firstBadEntry}
 use Rattle.permutation.proofs.Permutations.{passes-permutation}
@@ -39,7 +39,7 @@ abbrev asks : List ℕ → ℕ → ℕ → List Question
 asks order filled room =
     ask 1 0 (leb (length order) 1024)
     ∷ ask 4 0 (eqb filled (W (length order)))
-    ∷ ask 5 0 (leb (3 * E (length order)) room)
+    ∷ ask 5 0 (leb (entryWords * E (length order)) room)
     ∷ entryQuestions order
 
 call-is : (order bits log : List ℕ)
@@ -48,14 +48,14 @@ call-is : (order bits log : List ℕ)
 unfolding setCall
 call-is order bits log = refl
 
-six : (order : List ℕ) (filled room : ℕ) → length order ≤ 1024 → filled ≡ W (length order) → 3 * E (length order) ≤ room
+six : (order : List ℕ) (filled room : ℕ) → length order ≤ 1024 → filled ≡ W (length order) → entryWords * E (length order) ≤ room
     → firstNo (asks order filled room) ≡ firstNo (entryQuestions order)
 six order filled room h f g =
     let n = length order in
-    let roomAsked : List Question = ask 5 0 (leb (3 * E n) room) ∷ entryQuestions order in
+    let roomAsked : List Question = ask 5 0 (leb (entryWords * E n) room) ∷ entryQuestions order in
     asked-yes 1 0 (leb n 1024) (ask 4 0 (eqb filled (W n)) ∷ roomAsked) (le-leb n 1024 h)
     ∙ asked-yes 4 0 (eqb filled (W n)) roomAsked (eq-eqb filled (W n) f)
-    ∙ asked-yes 5 0 (leb (3 * E n) room) (entryQuestions order) (le-leb (3 * E n) room g)
+    ∙ asked-yes 5 0 (leb (entryWords * E n) room) (entryQuestions order) (le-leb (entryWords * E n) room g)
 
 refused-verdict : (v : Verdict) (c d : ℕ) (words : List ℕ) (b x rest : List ℕ) {a : Answer}
     → a ≡ answerOf v c → x ≡ bufferOf v words b → (a .number ≡ 0 → ⊥) → outcome a (x ++ rest) ≡ settled v d words (b ++ rest)
@@ -64,7 +64,7 @@ refused-verdict (noAt q p) c d words b x rest e l n = rw (e, l)
 
 module _
     (order bits log : List ℕ) {w : ℕ} {r : Answer} {b l : List ℕ}
-    (h : length order ≤ 1024) (f : w ≡ W (length order)) (m : w ≤ length bits) (k : 3 * E (length order) ≤ length log)
+    (h : length order ≤ 1024) (f : w ≡ W (length order)) (m : w ≤ length bits) (k : entryWords * E (length order) ≤ length log)
     (s : logged r b l ≡ setCall order (take w bits) log)
   where
     verdict : Verdict

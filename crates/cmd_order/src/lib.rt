@@ -71,8 +71,8 @@ fn set(order: &[u16], bits: &mut [u8]) -> Answer
         (length (now (order .entry))) (settingFor (now (order .entry))) (now (bits .entry)) ⌝ }
 {
     let w = counts::switches(order.len());
-    let e = 3 * counts::entries(order.len());
-    let mut log = [0u16; 49143];
+    let e = entry_log::ENTRY_WORDS * counts::entries(order.len());
+    let mut log = [0u16; entry_log::ENTRY_WORDS * 16381];
     let answer = control::control_bits(order, &mut bits[..w], &mut log[..e]);
     if answer.number != 0 {
         return answer;
