@@ -12,6 +12,7 @@ use Rattle.bits.specs.Bits.{Bits}
 use Rattle.counts.specs.Counts.{W}
 use Rattle.network.specs.Wiring.{paper}
 use Rattle.network.specs.Blocks.{cut, movedBack, orderOf}
+use Rattle.network.specs.Log.{entryWords}
 use Rattle.network.proofs.Paper.{paper-lawful}
 use Rattle.network.proofs.Blocks.{length-cut, getD-cut}
 use Rattle.network.proofs.Moved.{cut-movedBack, length-movedBack}
@@ -85,7 +86,7 @@ module _ (n : ℕ) (bits blocks : List ℕ) (long : length blocks ≡ n * 2) (N 
 
 -- no question of the return gets a no
 returned : (n : ℕ) (bits blocks log : List ℕ) {a : Answer} {after log′ : List ℕ} → n ≤ 1024 → W n ≤ 9217 → length bits ≡ W n → Bits bits
-    → length blocks ≡ n * 2 → length log ≡ 27651 → logged a after log′ ≡ inverseCall n 2 blocks bits log
+    → length blocks ≡ n * 2 → length log ≡ entryWords * 9217 → logged a after log′ ≡ inverseCall n 2 blocks bits log
     → after ≡ movedBack paper n 2 bits blocks
 returned n bits blocks log few small count areBits long room e =
     let f : Fits n 2 (length blocks) bits (length log) =
@@ -107,7 +108,7 @@ module _ (n : ℕ) (array : List ℕ) (few : n ≤ 1024) (room : length array �
       → length bits ≡ W n
       → Bits bits
       → Numbered n array
-      → length log ≡ 27651
+      → length log ≡ entryWords * 9217
       → logged a front log′ ≡ inverseCall n 2 (take (n * 2) array) bits log
       → tabulate (numberIn (front ++ drop (n * 2) array)) n ≡ orderOf paper n bits
   carried-in bits log small count areBits N words e =

@@ -30,7 +30,7 @@ pub fn order_of_setting(n: usize, bits: &[u8], order: &mut [u16; 1024])
 {
     let mut blocks = [0u8; 2048];
     number(n, &mut blocks);
-    let mut log = [0u16; 27651];
+    let mut log = [0u16; entry_log::ENTRY_WORDS * 9217];
     let end = n * 2;
     apply::apply_inverse(n, 2, &mut blocks[..end], bits, &mut log);
     gather(n, &blocks, order);

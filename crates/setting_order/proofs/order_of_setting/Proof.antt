@@ -1,10 +1,12 @@
 -- `setting_order::order_of_setting` meets its contract.
 -- Assumes nothing.
 use mathlib.Core.Path.{sym, ap, _∙_}
+use Prim.Native.Nat.{_*_}
 use native.Mathlib.Omega.{arith}
 use lib.ListN.{replicate}
 use lib.Seq.{length-take-le}
 use Rattle.answers.specs.Buffers.{overlay}
+use Rattle.network.specs.Log.{entryWords}
 use borrow.Author.Needs.{needs}
 use Rattle.setting_order.proofs.Carrying.{array-kept, carried-in}
 use Rattle.setting_order.proofs.order_of_setting.Statement.{statement}
@@ -42,7 +44,7 @@ returns c =
     let s = c .before .before .before .before .before .before .before .before .before .before .before .before in
     c .gather .ensures
     ∙ ap (overlay (s .args .order .now) 0)
-    (carried-in (s .args .n) (c .before .before .before .before .before .before .before .before .before .number .last .1 .0) (s .pre .0) (c .before .before .before .before .before .before .before .before .before .number .kept .1 .0) (s .args .bits .now) (replicate 27651 0) (s .pre .1) (s .pre .2) (s .pre .3)
+    (carried-in (s .args .n) (c .before .before .before .before .before .before .before .before .before .number .last .1 .0) (s .pre .0) (c .before .before .before .before .before .before .before .before .before .number .kept .1 .0) (s .args .bits .now) (replicate (entryWords * 9217) 0) (s .pre .1) (s .pre .2) (s .pre .3)
     (c .before .before .before .before .before .before .before .before .before .number .ensures) (search needs) (c .before .before .before .before .before .apply-inverse .ensures))
 
 pub order-of-setting-spec : {M : Type 1} → statement M
