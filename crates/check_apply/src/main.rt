@@ -58,7 +58,7 @@ fn room(w: usize) -> usize
 fn ours(
     n: usize,
     width: usize,
-    bits: &[u8; 9217],
+    bits: &[u8; counts::MOST_SWITCHES],
     w: usize,
     blocks: &mut [u8; 262144],
     log: &mut [u16; 27656],
@@ -77,7 +77,7 @@ fn theirs(
     lower: &[usize],
     upper: &[usize],
     w: usize,
-    bits: &[u8; 9217],
+    bits: &[u8; counts::MOST_SWITCHES],
     log: &mut [u16; 27656],
     back: bool,
 ) {
@@ -106,7 +106,7 @@ fn compare(
     lower: &[usize],
     upper: &[usize],
     w: usize,
-    bits: &[u8; 9217],
+    bits: &[u8; counts::MOST_SWITCHES],
     seed: u32,
     back: bool,
 ) -> Tally
@@ -130,10 +130,10 @@ fn compare(
 }
 
 fn check(t: Tally, n: usize, width: usize, seed: u32, back: bool) -> Tally {
-    let mut lower = [0usize; 9217];
-    let mut upper = [0usize; 9217];
+    let mut lower = [0usize; counts::MOST_SWITCHES];
+    let mut upper = [0usize; counts::MOST_SWITCHES];
     let count = plain::list(n, &mut lower, &mut upper);
-    let mut bits = [0u8; 9217];
+    let mut bits = [0u8; counts::MOST_SWITCHES];
     plain::fill(&mut bits, seed, 2);
     compare(
         t,

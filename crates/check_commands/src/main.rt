@@ -74,14 +74,14 @@ fn with_made(
     width: usize,
     seed: u32,
     order: &[u8],
-    sheet: &[u8; 1321],
+    sheet: &[u8; sheets::SHEET_ROOM],
     count: usize,
 ) -> Tally {
     with_sheet_part(t, n, width, seed, order, sheet, count)
 }
 
 fn with_order(t: Tally, n: usize, width: usize, seed: u32, order: &[u8]) -> Tally {
-    let mut sheet = [0u8; 1321];
+    let mut sheet = [0u8; sheets::SHEET_ROOM];
     let made = cmd_sheet::order_sheet(order, &mut sheet);
     with_made(accepted(t, made), n, width, seed, order, &sheet, made.count)
 }
@@ -149,7 +149,7 @@ fn text_kept(bytes: &[u8; 16384]) -> bool {
     plain::sevens(bytes)
 }
 
-fn sheet_kept(bytes: &[u8; 1321]) -> bool {
+fn sheet_kept(bytes: &[u8; sheets::SHEET_ROOM]) -> bool {
     plain::sevens(bytes)
 }
 
@@ -191,7 +191,7 @@ fn bad_blocks() -> Tally {
 }
 
 fn bad_order(t: Tally, order: &[u8], number: usize, place: usize) -> Tally {
-    let mut sheet = [7u8; 1321];
+    let mut sheet = [7u8; sheets::SHEET_ROOM];
     let made = cmd_sheet::order_sheet(order, &mut sheet);
     tally::tallied(refused(t, made, number, place), sheet_kept(&sheet))
 }

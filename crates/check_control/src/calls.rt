@@ -32,7 +32,7 @@ fn mix_part(
 ) -> Answer {
     let bytes = least(tally::times(n, width), blocks.len());
     let count = least(w, bits.len());
-    let mut log = [0u16; 27651];
+    let mut log = [0u16; entry_log::MOST_MOVE_WORDS];
     if back {
         return apply::apply_inverse(n, width, &mut blocks[..bytes], &bits[..count], &mut log);
     }
@@ -44,7 +44,7 @@ pub(crate) fn mix(
     n: usize,
     width: usize,
     blocks: &mut [u8; 262144],
-    bits: &[u8; 9217],
+    bits: &[u8; counts::MOST_SWITCHES],
     w: usize,
     back: bool,
 ) -> Answer {

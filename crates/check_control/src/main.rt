@@ -10,11 +10,11 @@ mod setter;
 use answers::Answer;
 use tally::Tally;
 
-fn alike(a: &[u8; 9217], b: &[u8; 9217]) -> bool {
+fn alike(a: &[u8; counts::MOST_SWITCHES], b: &[u8; counts::MOST_SWITCHES]) -> bool {
     check::same(a, b)
 }
 
-fn same_bits(t: Tally, a: &[u8; 9217], b: &[u8; 9217]) -> Tally {
+fn same_bits(t: Tally, a: &[u8; counts::MOST_SWITCHES], b: &[u8; counts::MOST_SWITCHES]) -> Tally {
     tally::tallied(t, alike(a, b))
 }
 
@@ -37,7 +37,7 @@ fn carry(
     t: Tally,
     order: &[u16; 1024],
     n: usize,
-    bits: &[u8; 9217],
+    bits: &[u8; counts::MOST_SWITCHES],
     w: usize,
     width: usize,
 ) -> Tally {
@@ -53,7 +53,13 @@ fn carry(
     same_blocks(accepted(t1, y, w), &blocks, &home)
 }
 
-fn carry_widths(t: Tally, order: &[u16; 1024], n: usize, bits: &[u8; 9217], w: usize) -> Tally {
+fn carry_widths(
+    t: Tally,
+    order: &[u16; 1024],
+    n: usize,
+    bits: &[u8; counts::MOST_SWITCHES],
+    w: usize,
+) -> Tally {
     let t1 = carry(t, order, n, bits, w, 1);
     let t2 = carry(t1, order, n, bits, w, 6);
     let t3 = carry(t2, order, n, bits, w, 255);
@@ -61,9 +67,9 @@ fn carry_widths(t: Tally, order: &[u16; 1024], n: usize, bits: &[u8; 9217], w: u
 }
 
 // The sheet reads back as the setting; what stands behind the bits stays.
-fn sheet(t: Tally, n: usize, bits: &[u8; 9217], w: usize, old: u8) -> Tally {
+fn sheet(t: Tally, n: usize, bits: &[u8; counts::MOST_SWITCHES], w: usize, old: u8) -> Tally {
     let mut s = [0u8; 1400];
-    let mut back = [old; 9217];
+    let mut back = [old; counts::MOST_SWITCHES];
     let x = calls::write_sheet(n, bits, w, &mut s);
     let y = calls::read_sheet(&s, x.count, &mut back);
     same_bits(accepted(t, y, n), &back, bits)
@@ -74,11 +80,11 @@ fn rerun(
     t: Tally,
     order: &[u16; 1024],
     nets: &[usize; 12288],
-    bits: &[u8; 9217],
+    bits: &[u8; counts::MOST_SWITCHES],
     log: &[u16; 49152],
     old: u8,
 ) -> Tally {
-    let mut again = [old; 9217];
+    let mut again = [old; counts::MOST_SWITCHES];
     let w = nets::of(nets, 0, nets::BITS);
     let mut i = 0;
     while i < w {
@@ -100,12 +106,12 @@ fn set(
     order: &[u16; 1024],
     n: usize,
     nets: &[usize; 12288],
-    bits: &mut [u8; 9217],
+    bits: &mut [u8; counts::MOST_SWITCHES],
     old: u8,
 ) -> Tally {
     let w = nets::of(nets, 0, nets::BITS);
     let entries = nets::of(nets, 0, nets::ENTRIES);
-    let mut plain = [old; 9217];
+    let mut plain = [old; counts::MOST_SWITCHES];
     let mut log = [wide(old); 49152];
     let mut right = [wide(old); 49152];
     let x = calls::set(order, n, bits, w, &mut log, entries % 16384 * 3 + 2);
@@ -117,7 +123,7 @@ fn set(
 
 fn check_order(t: Tally, order: &[u16; 1024], n: usize, nets: &[usize; 12288], old: u8) -> Tally {
     let w = nets::of(nets, 0, nets::BITS);
-    let mut bits = [old; 9217];
+    let mut bits = [old; counts::MOST_SWITCHES];
     let t1 = set(t, order, n, nets, &mut bits, old);
     carry_widths(sheet(t1, n, &bits, w, old), order, n, &bits, w)
 }
@@ -138,10 +144,15 @@ fn start() -> Run {
 }
 
 // The order that a setting carries is set: that carries the same order, and is the setting itself where it is canonical.
-fn check_setting(r: Run, n: usize, nets: &[usize; 12288], bits: &[u8; 9217]) -> Run {
+fn check_setting(
+    r: Run,
+    n: usize,
+    nets: &[usize; 12288],
+    bits: &[u8; counts::MOST_SWITCHES],
+) -> Run {
     let w = nets::of(nets, 0, nets::BITS);
     let e = orders::carried(n, bits, w);
-    let mut canonical = [0u8; 9217];
+    let mut canonical = [0u8; counts::MOST_SWITCHES];
     let t = r.checks;
     let t1 = set(t, &e, n, nets, &mut canonical, 0);
     let again = orders::carried(n, &canonical, w);

@@ -38,8 +38,8 @@ pub(crate) fn order(c: u32, n: usize, random: bool) -> [u16; 1024] {
 }
 
 // A setting of w bits: the binary digits of c, and behind sixteen of them a pseudo-random sequence.
-pub(crate) fn setting(c: u32, w: usize) -> [u8; 9217] {
-    let mut bits = [0u8; 9217];
+pub(crate) fn setting(c: u32, w: usize) -> [u8; counts::MOST_SWITCHES] {
+    let mut bits = [0u8; counts::MOST_SWITCHES];
     let mut x = c;
     let mut i = 0;
     while i < w {
@@ -111,7 +111,7 @@ fn word(low: u8, high: u8) -> u16 {
 }
 
 // The order that a setting carries: 0 to n - 1 returned by it, since the block at the place that i goes to comes to i.
-pub(crate) fn carried(n: usize, bits: &[u8; 9217], w: usize) -> [u16; 1024] {
+pub(crate) fn carried(n: usize, bits: &[u8; counts::MOST_SWITCHES], w: usize) -> [u16; 1024] {
     let mut blocks = numbers();
     calls::mix(n, 2, &mut blocks, bits, w, true);
     let mut order = [0u16; 1024];

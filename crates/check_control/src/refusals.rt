@@ -12,11 +12,11 @@ fn refused(
     number: usize,
     place: usize,
 ) -> Tally {
-    let mut bits = [7u8; 9217];
+    let mut bits = [7u8; counts::MOST_SWITCHES];
     let mut log = [77u16; 49152];
     let x = calls::set(order, n, &mut bits, w, &mut log, words);
     let t1 = tally::tallied(t, tally::same_answer(x, answers::refuse(number, place)));
-    let t2 = crate::same_bits(t1, &bits, &[7u8; 9217]);
+    let t2 = crate::same_bits(t1, &bits, &[7u8; counts::MOST_SWITCHES]);
     crate::same_words(t2, &log, &[77u16; 49152])
 }
 

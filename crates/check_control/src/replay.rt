@@ -74,7 +74,7 @@ fn place_of(table: &[usize; 1024], o: usize, m: usize, v: usize) -> usize {
 // of it. If f = c and a pair is unmarked, f = c = the lower place of the lowest unmarked pair.
 fn step3(
     marks: &mut [usize; 1024],
-    bits: &mut [u8; 9217],
+    bits: &mut [u8; counts::MOST_SWITCHES],
     m: usize,
     first: usize,
     w: Walk,
@@ -107,7 +107,14 @@ fn swap(table: &mut [usize; 1024], o: usize, k: usize, i: usize) {
 }
 
 // The first c switches, under the bits from `first` on.
-fn act(table: &mut [usize; 1024], o: usize, k: usize, c: usize, bits: &[u8; 9217], first: usize) {
+fn act(
+    table: &mut [usize; 1024],
+    o: usize,
+    k: usize,
+    c: usize,
+    bits: &[u8; counts::MOST_SWITCHES],
+    first: usize,
+) {
     let mut i = 0;
     while i < c {
         if bits[tally::add(first, i) % 9217] == 1 {
@@ -121,7 +128,7 @@ fn act(table: &mut [usize; 1024], o: usize, k: usize, c: usize, bits: &[u8; 9217
 fn step4(
     table: &mut [usize; 1024],
     marks: &mut [usize; 1024],
-    bits: &[u8; 9217],
+    bits: &[u8; counts::MOST_SWITCHES],
     o: usize,
     m: usize,
     first: usize,
@@ -157,7 +164,13 @@ fn gained(k: usize, cell: usize) -> usize {
 
 // 6. For i = 0 to m-k-1, output bit i is the last trail bit at o+i, and the switches act. Then every trail loses its last
 // bit and the value regains k where that bit was 1.
-fn step6(table: &mut [usize; 1024], bits: &mut [u8; 9217], o: usize, m: usize, first: usize) {
+fn step6(
+    table: &mut [usize; 1024],
+    bits: &mut [u8; counts::MOST_SWITCHES],
+    o: usize,
+    m: usize,
+    first: usize,
+) {
     let k = nets::up(m);
     last_bits(table, bits, o, m / 2, first);
     act(table, o, k, m / 2, bits, first);
@@ -168,7 +181,13 @@ fn step6(table: &mut [usize; 1024], bits: &mut [u8; 9217], o: usize, m: usize, f
     }
 }
 
-fn last_bits(table: &[usize; 1024], bits: &mut [u8; 9217], o: usize, h: usize, first: usize) {
+fn last_bits(
+    table: &[usize; 1024],
+    bits: &mut [u8; counts::MOST_SWITCHES],
+    o: usize,
+    h: usize,
+    first: usize,
+) {
     let mut i = 0;
     while i < h {
         put_bit(bits, tally::add(first, i), at(table, o, i) / 2048 % 2 == 1);
@@ -191,7 +210,7 @@ fn regained(k: usize, cell: usize) -> usize {
 fn step(
     table: &mut [usize; 1024],
     marks: &mut [usize; 1024],
-    bits: &mut [u8; 9217],
+    bits: &mut [u8; counts::MOST_SWITCHES],
     nets: &[usize; 12288],
     j: usize,
     kind: u16,
@@ -223,7 +242,7 @@ pub(crate) fn run(
     nets: &[usize; 12288],
     log: &[u16; 49152],
     count: usize,
-    bits: &mut [u8; 9217],
+    bits: &mut [u8; counts::MOST_SWITCHES],
 ) -> usize {
     let mut known = 0;
     let mut table = setter::load(order);

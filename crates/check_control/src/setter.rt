@@ -11,7 +11,7 @@ pub(crate) fn put(a: &mut [usize; 1024], o: usize, i: usize, x: usize) {
     a[(o % 1024 + i % 1024) % 1024] = x;
 }
 
-pub(crate) fn put_bit(bits: &mut [u8; 9217], i: usize, bit: bool) {
+pub(crate) fn put_bit(bits: &mut [u8; counts::MOST_SWITCHES], i: usize, bit: bool) {
     if i < 9217 {
         bits[i] = bit as u8;
     }
@@ -89,7 +89,7 @@ fn find_sides(table: &[usize; 1024], o: usize, m: usize) -> [usize; 1024] {
 // bottom, each inside its half; the pair's bit, where it has a switch; the output bit of the value that the top brings.
 fn deal(
     table: &mut [usize; 1024],
-    bits: &mut [u8; 9217],
+    bits: &mut [u8; counts::MOST_SWITCHES],
     o: usize,
     m: usize,
     first: usize,
@@ -124,7 +124,12 @@ pub(crate) fn outputs(nets: &[usize; 12288], j: usize) -> usize {
     std::num::wrapping_sub_usize(end, nets::of(nets, j, nets::SIZE) / 2)
 }
 
-fn set_net(table: &mut [usize; 1024], bits: &mut [u8; 9217], nets: &[usize; 12288], j: usize) {
+fn set_net(
+    table: &mut [usize; 1024],
+    bits: &mut [u8; counts::MOST_SWITCHES],
+    nets: &[usize; 12288],
+    j: usize,
+) {
     let o = nets::of(nets, j, nets::START);
     let m = nets::of(nets, j, nets::SIZE);
     let first = nets::of(nets, j, nets::BIT);
@@ -153,7 +158,11 @@ pub(crate) fn load(order: &[u16; 1024]) -> [usize; 1024] {
 }
 
 // The canonical setting of an order, into the first bits; those behind stay.
-pub(crate) fn set(order: &[u16; 1024], nets: &[usize; 12288], bits: &mut [u8; 9217]) {
+pub(crate) fn set(
+    order: &[u16; 1024],
+    nets: &[usize; 12288],
+    bits: &mut [u8; counts::MOST_SWITCHES],
+) {
     let mut table = load(order);
     let mut j = 0;
     while j < 1023 {

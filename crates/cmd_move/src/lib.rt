@@ -9,12 +9,12 @@ use numbers::ReadNumber;
 pub fn mix(sheet: &[u8], width: usize, blocks: &mut [u8]) -> Answer
     ensures { λ r. ⌜ outcome r (now (blocks .exit)) ≡ mixCall (now (sheet .entry)) width (now (blocks .entry)) ⌝ }
 {
-    let mut bits = [0u8; 9217];
+    let mut bits = [0u8; counts::MOST_SWITCHES];
     let read = sheet_reader::read_setting(sheet, &mut bits);
     let ReadNumber::Number(n, w) = read else {
         return numbers::answer(read);
     };
-    let mut log = [0u16; 27651];
+    let mut log = [0u16; entry_log::MOST_MOVE_WORDS];
     apply::apply(n, width, blocks, &bits[..w], &mut log)
 }
 
@@ -22,11 +22,11 @@ pub fn mix(sheet: &[u8], width: usize, blocks: &mut [u8]) -> Answer
 pub fn unmix(sheet: &[u8], width: usize, blocks: &mut [u8]) -> Answer
     ensures { λ r. ⌜ outcome r (now (blocks .exit)) ≡ unmixCall (now (sheet .entry)) width (now (blocks .entry)) ⌝ }
 {
-    let mut bits = [0u8; 9217];
+    let mut bits = [0u8; counts::MOST_SWITCHES];
     let read = sheet_reader::read_setting(sheet, &mut bits);
     let ReadNumber::Number(n, w) = read else {
         return numbers::answer(read);
     };
-    let mut log = [0u16; 27651];
+    let mut log = [0u16; entry_log::MOST_MOVE_WORDS];
     apply::apply_inverse(n, width, blocks, &bits[..w], &mut log)
 }

@@ -9,6 +9,9 @@ ghost use Rattle.cmd_order.specs.Orders.{countIn, orderIn, endOf, formQu
 use answers::Answer;
 use numbers::ReadNumber;
 
+// Room for the longest order, which has 2,050 bytes, and a byte more, so that a surplus shows.
+pub const ORDER_ROOM: usize = 2051;
+
 // An answer, and beside it the number of entries that the setter logged: 0 in a refusal.
 pub struct OrderSet {
     pub answer: Answer,
@@ -65,7 +68,7 @@ fn refused(answer: Answer) -> OrderSet
 
 // The setting of the order that an input holds, over the front of bits, and as count its places. A refusal leaves the bits
 // alone. 9,217 bits are enough for each order.
-pub fn order_setting(input: &[u8], bits: &mut [u8; 9217]) -> OrderSet
+pub fn order_setting(input: &[u8], bits: &mut [u8; counts::MOST_SWITCHES]) -> OrderSet
     ensures { λ r. ⌜ reported (outcome (r .answer) (now (bits .exit))) (r .entries)
         ≡ orderReport (now (input .entry)) (now (bits .entry)) ⌝ }
 {

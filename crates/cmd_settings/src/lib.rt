@@ -19,7 +19,7 @@ fn put_lines(out: &mut [u8], n: usize, bits: &[u8], entries: usize) -> usize
 pub fn settings_text(input: &[u8], out: &mut [u8; 9252]) -> usize
     ensures { λ r. ⌜ written r (now (out .exit)) ≡ settingsCall (now (input .entry)) (now (out .entry)) ⌝ }
 {
-    let mut bits = [0u8; 9217];
+    let mut bits = [0u8; counts::MOST_SWITCHES];
     let set = cmd_order::order_setting(input, &mut bits);
     let answer = set.answer;
     if answer.number != 0 {

@@ -5,10 +5,10 @@ ghost use Rattle.cmd_sheet.specs.Calls.{sheetCall};
 use answers::Answer;
 
 // The sheet of the order that an input holds, over the front of out: 1,321 bytes are enough for each.
-pub fn order_sheet(input: &[u8], out: &mut [u8; 1321]) -> Answer
+pub fn order_sheet(input: &[u8], out: &mut [u8; sheets::SHEET_ROOM]) -> Answer
     ensures { λ r. ⌜ outcome r (now (out .exit)) ≡ sheetCall (now (input .entry)) (now (out .entry)) ⌝ }
 {
-    let mut bits = [0u8; 9217];
+    let mut bits = [0u8; counts::MOST_SWITCHES];
     let set = cmd_order::order_setting(input, &mut bits);
     let read = set.answer;
     if read.number != 0 {

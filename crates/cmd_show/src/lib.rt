@@ -18,7 +18,7 @@ use numbers::ReadNumber;
 pub fn show_sheet(sheet: &[u8], out: &mut [u8; 16384]) -> Answer
     ensures { λ r. ⌜ outcome r (now (out .exit)) ≡ showCall (now (sheet .entry)) (now (out .entry)) ⌝ }
 {
-    let mut bits = [0u8; 9217];
+    let mut bits = [0u8; counts::MOST_SWITCHES];
     let read = sheet_reader::read_setting(sheet, &mut bits);
     let ReadNumber::Number(n, w) = read else {
         return numbers::answer(read);

@@ -5,6 +5,13 @@ ghost use Prim.Native.Nat.{_≤_};
 ghost use Rattle.counts.specs.Counts.{W, E, L};
 ghost use Rattle.counts.specs.Table.{StandsAt};
 
+// The most places that a call takes, and the switches and the setter's entries of so many.
+pub const MOST_PLACES: usize = 1024;
+
+pub const MOST_SWITCHES: usize = 9217;
+
+pub const MOST_ENTRIES: usize = 16381;
+
 mod entry_table;
 mod switch_table;
 

@@ -10,6 +10,11 @@ ghost use Rattle.network.specs.Log.{entry, entryWords, words, entryAt};
 // How many words an entry has.
 pub const ENTRY_WORDS: usize = 3;
 
+// The words of the longest logs: of set, and of mix or return.
+pub const MOST_SET_WORDS: usize = ENTRY_WORDS * counts::MOST_ENTRIES;
+
+pub const MOST_MOVE_WORDS: usize = ENTRY_WORDS * counts::MOST_SWITCHES;
+
 // Writes the log's entry number e.
 pub fn write_entry(log: &mut [u16], e: usize, kind: u16, first: usize, second: usize)
     requires { ⌜ (entryWords * (e + 1) ≤ length (now log)) × (first < 65536) × (second < 65536) ⌝ }

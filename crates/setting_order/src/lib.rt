@@ -18,7 +18,7 @@ pub fn setting_of_order(order: &[u16], bits: &mut [u8]) -> usize
         × (length (now bits) ≡ W (length (now order))) ⌝ }
     ensures { λ r. ⌜ (r ≡ E (length (now (order .entry)))) × (now (bits .exit) ≡ settingFor paper (now (order .entry))) ⌝ }
 {
-    let mut log = [0u16; 49143];
+    let mut log = [0u16; entry_log::MOST_SET_WORDS];
     control::set_order(order, bits, &mut log)
 }
 
@@ -30,7 +30,7 @@ pub fn order_of_setting(n: usize, bits: &[u8], order: &mut [u16; 1024])
 {
     let mut blocks = [0u8; 2048];
     number(n, &mut blocks);
-    let mut log = [0u16; entry_log::ENTRY_WORDS * 9217];
+    let mut log = [0u16; entry_log::MOST_MOVE_WORDS];
     let end = n * 2;
     apply::apply_inverse(n, 2, &mut blocks[..end], bits, &mut log);
     gather(n, &blocks, order);

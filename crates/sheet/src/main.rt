@@ -2,7 +2,7 @@
 use cmd_console::Program;
 
 fn sheet(input: &[u8]) {
-    let mut made = [0u8; 1321];
+    let mut made = [0u8; sheets::SHEET_ROOM];
     let answer = cmd_sheet::order_sheet(input, &mut made);
     let n = answer.count;
     cmd_console::finish(Program::Sheet, answer, &made[..n]);
@@ -12,7 +12,7 @@ fn main() {
     if cmd_console::misused(Program::Sheet, 0) {
         return;
     }
-    let mut input = [0u8; 2051];
+    let mut input = [0u8; cmd_order::ORDER_ROOM];
     let got = cmd_console::read_input(Program::Sheet, &mut input);
     if got.failed {
         return;

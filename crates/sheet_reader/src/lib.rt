@@ -23,7 +23,7 @@ pub fn read_sheet(input: &[u8], bits: &mut [u8]) -> Answer
         return numbers::answer(head);
     };
     let w = counts::switches(n);
-    let mut values = [0u16; 659];
+    let mut values = [0u16; sheets::MOST_FOURTEENS];
     let body = read_body(input, w, at, &mut values);
     let ReadNumber::Number(k, _) = body else {
         return numbers::answer(body);
@@ -34,7 +34,7 @@ pub fn read_sheet(input: &[u8], bits: &mut [u8]) -> Answer
 
 // The setting of a sheet, over the front of bits, which have room for each: n and W(n), or the refusal. Public for the crates
 // that do something with a setting.
-pub fn read_setting(sheet: &[u8], bits: &mut [u8; 9217]) -> ReadNumber
+pub fn read_setting(sheet: &[u8], bits: &mut [u8; counts::MOST_SWITCHES]) -> ReadNumber
     ensures { λ r. ⌜ SettingRead (now (sheet .entry)) (now (bits .exit)) r ⌝ }
 {
     let read = read_sheet(sheet, bits);

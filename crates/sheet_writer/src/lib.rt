@@ -24,7 +24,7 @@ pub fn write_sheet(n: usize, bits: &[u8], out: &mut [u8]) -> Answer
     if bad != bits.len() {
         return answers::refuse(7, bad);
     }
-    let mut made = [0u8; 1321];
+    let mut made = [0u8; sheets::SHEET_ROOM];
     let end = make_sheet(n, bits, &mut made);
     if out.len() < end {
         return answers::refuse(13, 0);
@@ -38,7 +38,7 @@ fn make_sheet(n: usize, bits: &[u8], buf: &mut [u8]) -> usize
     requires { ⌜ (n ≤ 1024) × (length (now bits) ≤ 9217) × Bits (now bits) × (1321 ≤ length (now buf)) ⌝ }
     ensures { λ r. ⌜ Put (now (buf .entry)) 0 (sheet n (now (bits .entry))) r (now (buf .exit)) ⌝ }
 {
-    let mut row = [0u16; 659];
+    let mut row = [0u16; sheets::MOST_FOURTEENS];
     let k = (bits.len() + 13) / 14;
     gather(bits, k, &mut row);
     let a = numbers::put_number(buf, 0, 1);
