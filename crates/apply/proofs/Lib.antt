@@ -1,4 +1,3 @@
-pub mod Asked
 pub mod Halves
 pub mod Network
 pub mod Whole

@@ -17,8 +17,9 @@ use Rattle.network.specs.Blocks.{moved, movedBack}
 use Rattle.network.specs.Log.{entryWords, words, applyEntries, inverseEntries}
 use Rattle.network.proofs.Paper.{paper-lawful}
 use Rattle.network.proofs.Moved.{length-moved, length-movedBack, movedBack-moved}
-use Rattle.apply.specs.Calls.{applyQuestions, applyCall, inverseCall}
-use Rattle.apply.proofs.Asked.{Fits, passes, fit-passes, asked-well}
+use Rattle.apply_questions.specs.Questions.{applyQuestions}
+use Rattle.apply.specs.Calls.{applyCall, inverseCall}
+use Rattle.apply_questions.proofs.Asked.{Fits, passes, fit-passes, asked-well}
 
 -- what a call that is not refused comes to
 settled-yes : (v : Verdict) (count : ℕ) (words b entries l : List ℕ) → v ≡ allYes → length words ≡ length b

@@ -21,8 +21,9 @@ use Rattle.network.specs.Blocks.{cut, bytesOf, moved, movedBack}
 use Rattle.network.specs.Log.{Entry, words, switches, applyEntries, inverseEntries}
 use Rattle.network.proofs.Blocks.{bytes-cut}
 use Rattle.apply_exchange.specs.Ran.{Lent, Ran, bitsBack}
-use Rattle.apply.specs.Calls.{applyQuestions, applyCall, inverseCall}
-use Rattle.apply.proofs.Asked.{Fits, passes, asked-well}
+use Rattle.apply_questions.specs.Questions.{applyQuestions}
+use Rattle.apply.specs.Calls.{applyCall, inverseCall}
+use Rattle.apply_questions.proofs.Asked.{Fits, passes, asked-well}
 
 -- a first no: the answer of the questions, and both buffers as they were
 turned-away : (v : Verdict) (count : ℕ) (words b entries l : List ℕ) {a : Answer} → a ≡ answerOf v 0 → (a .number ≡ 0 → ⊥)

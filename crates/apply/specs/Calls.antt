@@ -1,29 +1,15 @@
 -- The calls `apply` (01: mix) and `apply_inverse` (01: return).
 -- Assumes nothing: these are definitions.
-use mathlib.Core.Bool.{Bool, _&&_}
-use mathlib.Core.List.{List, [], _∷_}
-use Prim.Native.Nat.{ℕ, _*_}
-use lib.Dec.{leb, eqb}
+use mathlib.Core.List.{List}
+use Prim.Native.Nat.{ℕ}
 use lib.ListN.{length}
-use Rattle.answers.specs.Questions.{Question, ask, askEach, firstNo}
+use Rattle.answers.specs.Questions.{firstNo}
 use Rattle.answers.specs.Outcomes.{Logged, settledLogged}
-use Rattle.bits.specs.Bits.{isBit}
 use Rattle.counts.specs.Counts.{W}
 use Rattle.network.specs.Wiring.{paper}
 use Rattle.network.specs.Blocks.{moved, movedBack}
-use Rattle.network.specs.Log.{entryWords, words, applyEntries, inverseEntries}
-
--- questions 1, 2, 3, 4, 5, 7: of n, the block width, the number of bytes that the blocks fill, the bits, and the number of
--- words that the log has
-unfoldable pub applyQuestions : ℕ → ℕ → ℕ → List ℕ → ℕ → List Question
-applyQuestions n width filled bits room =
-    ask 1 0 (leb n 1024)
-    ∷ ask 2 0 (leb 1 width && leb width 256)
-    ∷ ask 3 0 (eqb filled (n * width))
-    ∷ ask 4 0 (eqb (length bits) (W n))
-    ∷ ask 5 0 (leb (entryWords * W n) room)
-    ∷ askEach 7 (isBit bits) (length bits)
-    ∷ []
+use Rattle.network.specs.Log.{words, applyEntries, inverseEntries}
+use Rattle.apply_questions.specs.Questions.{applyQuestions}
 
 -- 01: mix
 unfoldable pub applyCall : ℕ → ℕ → List ℕ → List ℕ → List ℕ → Logged

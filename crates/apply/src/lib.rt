@@ -5,45 +5,14 @@ ghost use mathlib.Core.Path.{_≡_};
 ghost use mathlib.Core.List.{[], reverse};
 ghost use Prim.Native.Nat.{_+_};
 ghost use lib.ListN.{drop};
-ghost use Rattle.answers.specs.Questions.{firstNo};
-ghost use Rattle.answers.specs.Outcomes.{answerOf, logged};
+ghost use Rattle.answers.specs.Outcomes.{logged};
 ghost use Rattle.counts.specs.Counts.{W};
 ghost use Rattle.network.specs.Wiring.{paper};
 ghost use Rattle.network.specs.Network.{network};
 ghost use Rattle.network.specs.Move.{forward, backward};
 ghost use Rattle.network.specs.Log.{switches};
 ghost use Rattle.apply_exchange.specs.Ran.{Lent, Ran, bitsBack};
-ghost use Rattle.apply.specs.Calls.{applyQuestions, applyCall, inverseCall};
-
-// Questions 1, 2, 3, 4, 5, 7 in their sequence: the refusal of the first that gets a no, or number 0.
-fn ask(n: usize, width: usize, filled: usize, bits: &[u8], room: usize) -> answers::Answer
-    ensures { λ r. ⌜ r ≡ answerOf (firstNo (applyQuestions n width filled (now (bits .entry)) room)) 0 ⌝ }
-{
-    if 1024 < n {
-        return answers::refuse(1, 0);
-    }
-    if width < 1 {
-        return answers::refuse(2, 0);
-    }
-    if 256 < width {
-        return answers::refuse(2, 0);
-    }
-    if filled != n * width {
-        return answers::refuse(3, 0);
-    }
-    let due = counts::switches(n);
-    if bits.len() != due {
-        return answers::refuse(4, 0);
-    }
-    if room < entry_log::ENTRY_WORDS * due {
-        return answers::refuse(5, 0);
-    }
-    let bad = bits::first_bad_bit(bits);
-    if bad != bits.len() {
-        return answers::refuse(7, bad);
-    }
-    answers::accept(0)
-}
+ghost use Rattle.apply.specs.Calls.{applyCall, inverseCall};
 
 // The network of m places from o, on its own part of the blocks, its entries from number e on: input switches, top, bottom,
 // output switches. Returns the number of the entry after its last.
@@ -118,7 +87,7 @@ pub fn apply(
 ) -> answers::Answer
     ensures { λ r. ⌜ logged r (now (blocks .exit)) (now (log .exit)) ≡ applyCall n width (now (blocks .entry)) (now (bits .entry)) (now (log .entry)) ⌝ }
 {
-    let asked = ask(n, width, blocks.len(), bits, log.len());
+    let asked = apply_questions::ask(n, width, blocks.len(), bits, log.len());
     if asked.number != 0 { // nothing is written
         return asked;
     }
@@ -135,7 +104,7 @@ pub fn apply_inverse(
 ) -> answers::Answer
     ensures { λ r. ⌜ logged r (now (blocks .exit)) (now (log .exit)) ≡ inverseCall n width (now (blocks .entry)) (now (bits .entry)) (now (log .entry)) ⌝ }
 {
-    let asked = ask(n, width, blocks.len(), bits, log.len());
+    let asked = apply_questions::ask(n, width, blocks.len(), bits, log.len());
     if asked.number != 0 {
         return asked;
     }

@@ -22,7 +22,7 @@ use Rattle.canonical.specs.Carry.{Carries, BringsHome}
 use Rattle.canonical.proofs.Only.{exactly-one, canonical-length, canonical-bits}
 use Rattle.canonical.proofs.Carry.{canonical-carries, canonical-brings-home}
 use Rattle.sheets.proofs.Round.{Writable, write-accepts, sheet-read}
-use Rattle.apply.proofs.Asked.{fit-passes}
+use Rattle.apply_questions.proofs.Asked.{fit-passes}
 use Rattle.claims.specs.Calls.{Direction, mixing, returning, set, move, mix, return, movedBy, described, outcomeOf, due}
 use Rattle.claims.specs.Carrying.{block, Setting, Filled, RoomToSet, RoomToMove, Demand2}
 use Rattle.claims.proofs.Asked.{set-passes}

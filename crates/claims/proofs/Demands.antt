@@ -25,8 +25,9 @@ use Rattle.steps.specs.Sequence.{setEntries}
 use Rattle.steps.specs.Run.{settingOf}
 use Rattle.steps.proofs.Lengths.{length-setEntries}
 use Rattle.steps_canonical.proofs.Whole.{setting-canonical}
-use Rattle.apply.specs.Calls.{applyQuestions, applyCall, inverseCall}
-use Rattle.apply.proofs.Asked.{passes, numbered}
+use Rattle.apply_questions.specs.Questions.{applyQuestions}
+use Rattle.apply.specs.Calls.{applyCall, inverseCall}
+use Rattle.apply_questions.proofs.Asked.{passes, numbered}
 use Rattle.control.specs.Calls.{setCall}
 use Rattle.claims.specs.Calls.{
   Direction,

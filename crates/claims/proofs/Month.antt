@@ -20,7 +20,8 @@ use Rattle.sheets.specs.Sheet.{bitsNumber, fourteens, sheet}
 use Rattle.sheets.specs.Reading.{lowBits, bitsIn, allZero}
 use Rattle.sheets.specs.Calls.{writeQuestions, writeSheet, headQuestions, bitsFrom, bodyQuestions, readQuestions, readSheet, settingIn}
 use Rattle.shuffle.specs.Shuffled.{stepped, shuffleCall}
-use Rattle.apply.specs.Calls.{applyQuestions, applyCall, inverseCall}
+use Rattle.apply_questions.specs.Questions.{applyQuestions}
+use Rattle.apply.specs.Calls.{applyCall, inverseCall}
 use Rattle.control.specs.Calls.{setCall}
 use Rattle.claims.specs.Month.{runCase, expected, cases}
 

@@ -15,7 +15,8 @@ use Rattle.network.specs.Log.{Entry, entryWords, entries, applyEntries, inverse
 use Rattle.canonical.specs.Rule.{Canonical}
 use Rattle.steps.specs.Sequence.{setEntries}
 use Rattle.steps.specs.Run.{settingOf}
-use Rattle.apply.specs.Calls.{applyQuestions, applyCall, inverseCall}
+use Rattle.apply_questions.specs.Questions.{applyQuestions}
+use Rattle.apply.specs.Calls.{applyCall, inverseCall}
 use Rattle.control.specs.Calls.{setQuestions, setCall}
 
 -- ---- the calls

@@ -16,7 +16,7 @@ use Rattle.numbers.specs.declared.ReadNumber.the-variants.{Number, Refused}
 use Rattle.rows.proofs.Reading.{row-stops}
 use Rattle.sheets.specs.Calls.{placesIn, readQuestions, settingIn, SettingRead}
 use Rattle.sheets.proofs.Setting.{setting-got, setting-there}
-use Rattle.apply.specs.Calls.{applyQuestions}
+use Rattle.apply_questions.specs.Questions.{applyQuestions}
 use Rattle.cmd_move.specs.Calls.{moveQuestions, moveCall}
 
 -- the blocks that a direction moves, after the setting was read into the bits

@@ -9,7 +9,7 @@ use Rattle.counts.specs.Counts.{W}
 use Rattle.sheets.specs.Calls.{placesIn, readQuestions, settingIn}
 use Rattle.network.specs.Wiring.{paper}
 use Rattle.network.specs.Blocks.{moved, movedBack}
-use Rattle.apply.specs.Calls.{applyQuestions}
+use Rattle.apply_questions.specs.Questions.{applyQuestions}
 
 -- those of reading the sheet, into room for the longest setting; then those of moving blocks, with n and the bits from the
 -- sheet and room for the longest log

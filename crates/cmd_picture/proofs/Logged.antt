@@ -21,7 +21,7 @@ use Rattle.network.proofs.Shape.{entryAt-front, length-applyEntries}
 use Rattle.permutation.specs.Permutations.{tabulate}
 use Rattle.permutation.proofs.Tables.{is-tabulate}
 use Rattle.apply.specs.Calls.{applyCall}
-use Rattle.apply.proofs.Asked.{Fits}
+use Rattle.apply_questions.proofs.Asked.{Fits}
 use Rattle.apply.proofs.Outcome.{apply-accepted}
 use Rattle.answers.specs.Buffers.{Put}
 use Rattle.answers.proofs.Putting.{put-then}

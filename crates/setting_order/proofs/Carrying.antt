@@ -20,7 +20,7 @@ use Rattle.network.proofs.Order.{length-order, order-below, order-backward}
 use Rattle.permutation.specs.Permutations.{tabulate}
 use Rattle.permutation.proofs.Tables.{is-tabulate}
 use Rattle.apply.specs.Calls.{inverseCall}
-use Rattle.apply.proofs.Asked.{Fits}
+use Rattle.apply_questions.proofs.Asked.{Fits}
 use Rattle.apply.proofs.Outcome.{inverse-accepted}
 use Rattle.setting_order.specs.Inner.{numberIn, Numbered}
 

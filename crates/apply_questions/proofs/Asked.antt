@@ -18,7 +18,7 @@ use Rattle.bits.specs.Bits.{isBit, Bits}
 use Rattle.bits.proofs.Bytes.{bits-all, all-bits}
 use Rattle.counts.specs.Counts.{W}
 use Rattle.network.specs.Log.{entryWords}
-use Rattle.apply.specs.Calls.{applyQuestions}
+use Rattle.apply_questions.specs.Questions.{applyQuestions}
 
 module _ (n width filled : ℕ) (bits : List ℕ) (room : ℕ) where
   abbrev verdict : Verdict

@@ -7,10 +7,10 @@ use Prim.Native.Nat.{_*_, _≤_, _<_}
 use lib.ListN.{length}
 use Rattle.counts.specs.Counts.{W}
 use Rattle.answers.specs.Answers.{refusal}
-use Rattle.apply.proofs.Asked.{told, no1, no2-narrow, no2-wide, no3, no4, no5, no7, yes-all}
+use Rattle.apply_questions.proofs.Asked.{told, no1, no2-narrow, no2-wide, no3, no4, no5, no7, yes-all}
 use borrow.Author.Needs.{needs}
-use Rattle.apply.proofs.ask.Statement.{statement}
-use Rattle.apply.proofs.ask.Tie as tie
+use Rattle.apply_questions.proofs.ask.Statement.{statement}
+use Rattle.apply_questions.proofs.ask.Tie as tie
 
 refuse-requires : tie.Need-refuse-requires
 refuse-requires c κs = search needs
