@@ -25,7 +25,8 @@ use Rattle.steps.proofs.Lengths.{length-entries}
 use Rattle.control_sweeps.specs.Tables.{Below}
 use Rattle.control_steps.specs.declared.Walk.{Walk}
 use Rattle.control_steps.specs.Walks.{state, Went}
-use Rattle.control.specs.Inner.{Room, Tidy, Lengthens, Sets}
+use Rattle.control_network.specs.Inner.{Room, Tidy, Lengthens}
+use Rattle.control.specs.Inner.{Sets}
 
 unlike-self : (n : ℕ) → Unlike n (λ i. i)
 unfolding Unlike

@@ -6,18 +6,18 @@ use Prim.Native.Nat.{ℕ, _+_, _*_, _-_, _≤_, _<_}
 use Rattle.counts.specs.Counts.{up}
 use Rattle.counts.proofs.Rule.{W-none}
 use Rattle.control_steps.specs.Walks.{state}
-use Rattle.control.proofs.Bounds.{tidy-more}
-use Rattle.control.proofs.Entries.{went-none, went-as, net-none, entries-none}
-use Rattle.control.proofs.Whole.{Entered, Halved, room-top, tidy-top, lengthens-top, room-bottom, tidy-bottom, lengthens-bottom, asks-six, whole-log, whole-state}
+use Rattle.control_network.proofs.Bounds.{tidy-more}
+use Rattle.control_network.proofs.Entries.{went-none, went-as, net-none, entries-none}
+use Rattle.control_network.proofs.Whole.{Entered, Halved, room-top, tidy-top, lengthens-top, room-bottom, tidy-bottom, lengthens-bottom, asks-six, whole-log, whole-state}
 use borrow.Fn.Kinds.{In}
 use borrow.Fn.PlainCycle.{Measures, is, falls, and}
-use Rattle.control.proofs.set_network.Reads as set-network
-use Rattle.control.proofs.set_network.Kinds as set-network-kinds
-use Rattle.control.proofs.+set_network.Lts-set_network as set-network-lts
-use Rattle.control.proofs.enter.Reads as enter-reads
+use Rattle.control_network.proofs.set_network.Reads as set-network
+use Rattle.control_network.proofs.set_network.Kinds as set-network-kinds
+use Rattle.control_network.proofs.+set_network.Lts-set_network as set-network-lts
+use Rattle.control_network.proofs.enter.Reads as enter-reads
 use Rattle.control_steps.proofs.step6.Reads as step6-reads
-use Rattle.control.proofs.+set_network.{statement}
-use Rattle.control.proofs.+set_network.Tie.{close}
+use Rattle.control_network.proofs.+set_network.{statement}
+use Rattle.control_network.proofs.+set_network.Tie.{close}
 
 abbrev μ-set-network : Measures 5 set-network-kinds.ps ℕ
 μ-set-network κs a = a .1 .1 .1 .1 .1 .0

@@ -11,10 +11,10 @@ use Rattle.steps.specs.Sequence.{rounds}
 use Rattle.steps.specs.Fold.{roundsOf}
 use Rattle.steps.proofs.Lengths.{length-rounds}
 use Rattle.control_steps.specs.Walks.{state, within, Went}
-use Rattle.control.proofs.Bounds.{tidy-rounds}
-use Rattle.control.proofs.Entries.{went-none, went-then, went-as, rounds-more, round-more}
-use Rattle.control.proofs.rounds.Statement.{statement}
-use Rattle.control.proofs.rounds.Tie as tie
+use Rattle.control_network.proofs.Bounds.{tidy-rounds}
+use Rattle.control_network.proofs.Entries.{went-none, went-then, went-as, rounds-more, round-more}
+use Rattle.control_network.proofs.rounds.Statement.{statement}
+use Rattle.control_network.proofs.rounds.Tie as tie
 
 abbrev Inv-loop : tie.InvT-loop
 Inv-loop vals marks₀ bits₀ o m log₀ k x₀ i₀ marks bits log x i = ((i ≤ up m) × (length marks ≡ length marks₀) × (length bits ≡ length bits₀) × (length log ≡ length log₀)) × Went (rounds i o m) 0 x₀ x log₀ log × ((ts : List ℕ) → state vals ts marks bits x ≡ roundsOf paper (within o m (x₀ .b)) i (state vals ts marks₀ bits₀ x₀))

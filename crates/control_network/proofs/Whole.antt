@@ -19,10 +19,10 @@ use Rattle.steps.proofs.Lengths.{E-parts, length-entries}
 use Rattle.control_sweeps.specs.Tables.{Below}
 use Rattle.control_steps.specs.declared.Walk.{Walk}
 use Rattle.control_steps.specs.Walks.{state, within, Went}
-use Rattle.control.specs.Inner.{Room, Tidy, Lengthens}
-use Rattle.control.proofs.Bounds.{tidy-more, tidy5, tidy-input, tidy-net}
-use Rattle.control.proofs.Trails.{Halfway, halfway-enter, halfway-kept, halfway-top, halfway-bottom}
-use Rattle.control.proofs.Entries.{went-then, went-as, W-parts, entries-split, net-split}
+use Rattle.control_network.specs.Inner.{Room, Tidy, Lengthens}
+use Rattle.control_network.proofs.Bounds.{tidy-more, tidy5, tidy-input, tidy-net}
+use Rattle.control_network.proofs.Trails.{Halfway, halfway-enter, halfway-kept, halfway-top, halfway-bottom}
+use Rattle.control_network.proofs.Entries.{went-then, went-as, W-parts, entries-split, net-split}
 
 -- a part was done: its entries, its n bits, and what it made of the state
 pub record Done (es : List Entry) (n : ℕ) (F : State → State) (w r : Walk) (vs ts ms bs l vs′ ts′ ms′ bs′ l′ : List ℕ) : Type 0 where

@@ -10,11 +10,11 @@ use Rattle.steps.specs.State.{State}
 use Rattle.steps.specs.Fold.{roundsOf}
 use Rattle.control_steps.specs.declared.Walk.{Walk}
 use Rattle.control_steps.specs.Walks.{state, within}
-use Rattle.control.specs.Inner.{Tidy}
-use Rattle.control.proofs.Bounds.{tidy1, tidy2}
-use Rattle.control.proofs.Entries.{went-then}
-use Rattle.control.proofs.round.Statement.{statement}
-use Rattle.control.proofs.round.Tie as tie
+use Rattle.control_network.specs.Inner.{Tidy}
+use Rattle.control_network.proofs.Bounds.{tidy1, tidy2}
+use Rattle.control_network.proofs.Entries.{went-then}
+use Rattle.control_network.proofs.round.Statement.{statement}
+use Rattle.control_network.proofs.round.Tie as tie
 
 step1-requires : tie.Need-step1-requires
 step1-requires c κs = search needs

@@ -24,7 +24,7 @@ use Rattle.control_sweeps.proofs.Places.{each-ahead}
 use Rattle.control_steps.specs.declared.Walk.{Walk}
 use Rattle.control_steps.specs.Walks.{state, within}
 use Rattle.control_steps.proofs.Bounds.{set-below, store-below, act-below, each-below, below-more, pick-below, look-below, seek-below, other-below, pair-within}
-use Rattle.control.specs.Inner.{Tidy}
+use Rattle.control_network.specs.Inner.{Tidy}
 
 enc-within : (k q : ℕ) (t : Bool) → paper .enc k (q, t) ≤ q + k
 enc-within k q true = omega arith

@@ -8,12 +8,12 @@ use Rattle.steps.specs.Steps.{step5}
 use Rattle.steps.specs.State.{State}
 use Rattle.steps.proofs.Lengths.{E-parts}
 use Rattle.control_steps.specs.Walks.{state, within}
-use Rattle.control.specs.Inner.{Tidy}
-use Rattle.control.proofs.Bounds.{tidy-input}
-use Rattle.control.proofs.Entries.{went-then, went-as, W-parts}
-use Rattle.control.proofs.Trails.{within-input}
-use Rattle.control.proofs.enter.Statement.{statement}
-use Rattle.control.proofs.enter.Tie as tie
+use Rattle.control_network.specs.Inner.{Tidy}
+use Rattle.control_network.proofs.Bounds.{tidy-input}
+use Rattle.control_network.proofs.Entries.{went-then, went-as, W-parts}
+use Rattle.control_network.proofs.Trails.{within-input}
+use Rattle.control_network.proofs.enter.Statement.{statement}
+use Rattle.control_network.proofs.enter.Tie as tie
 
 input-steps-requires : tie.Need-input-steps-requires
 input-steps-requires c κs = search needs

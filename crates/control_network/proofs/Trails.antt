@@ -24,8 +24,8 @@ use Rattle.steps.proofs.Places.{Unlike}
 use Rattle.steps.proofs.Sweeps.{length-each, each-off, each-at, turned, SidesUnlike, length-act, act-off, act-at}
 use Rattle.control_sweeps.specs.Tables.{Within}
 use Rattle.control_steps.specs.Walks.{within}
-use Rattle.control.specs.Inner.{Lengthens}
-use Rattle.control.proofs.Bounds.{further}
+use Rattle.control_network.specs.Inner.{Lengthens}
+use Rattle.control_network.proofs.Bounds.{further}
 
 -- P holds of each of the m trails from o
 unfoldable pub All : ℕ → ℕ → (ℕ → Type 0) → List ℕ → Type 0

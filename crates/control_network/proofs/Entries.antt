@@ -22,7 +22,7 @@ use Rattle.steps.specs.Sequence.{rounds, inputEntries, entriesOf}
 use Rattle.steps.specs.Fold.{roundsOf, inputSteps, setNet}
 use Rattle.control_steps.specs.declared.Walk.{Walk}
 use Rattle.control_steps.specs.Walks.{within, Went}
-use Rattle.control.proofs.Bounds.{further}
+use Rattle.control_network.proofs.Bounds.{further}
 
 pub went-none : (w : Walk) (l : List ℕ) → Went [] 0 w w l l
 unfolding words

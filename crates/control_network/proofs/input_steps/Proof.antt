@@ -10,12 +10,12 @@ use Rattle.network.specs.Wiring.{paper}
 use Rattle.steps.specs.Steps.{step4}
 use Rattle.steps.proofs.Lengths.{length-rounds}
 use Rattle.control_steps.specs.Walks.{state, within}
-use Rattle.control.specs.Inner.{Tidy}
-use Rattle.control.proofs.Bounds.{tidy-trails, tidy-rounds}
-use Rattle.control.proofs.Entries.{went-none, went-then, went-as, input-none, input-some, steps-none, steps-some, W-parts}
+use Rattle.control_network.specs.Inner.{Tidy}
+use Rattle.control_network.proofs.Bounds.{tidy-trails, tidy-rounds}
+use Rattle.control_network.proofs.Entries.{went-none, went-then, went-as, input-none, input-some, steps-none, steps-some, W-parts}
 use Rattle.counts.proofs.Rule.{E-more}
-use Rattle.control.proofs.input_steps.Statement.{statement}
-use Rattle.control.proofs.input_steps.Tie as tie
+use Rattle.control_network.proofs.input_steps.Statement.{statement}
+use Rattle.control_network.proofs.input_steps.Tie as tie
 
 returns : tie.Need-returns
 returns c =

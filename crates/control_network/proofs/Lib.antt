@@ -1,0 +1,4 @@
+pub mod Bounds
+pub mod Trails
+pub mod Entries
+pub mod Whole

@@ -1,0 +1,34 @@
+-- What the functions of the setter's recursion ask of their callers.
+-- Assumes nothing: these are definitions.
+use Prim.Native.Nat.{ℕ, _+_, _-_, _*_, _≤_, _<_}
+use mathlib.Core.List.{List}
+use lib.ListN.{length, getD}
+use Rattle.counts.specs.Counts.{up, W, E}
+use Rattle.network.specs.Log.{entryWords}
+use Rattle.steps.specs.State.{State}
+use Rattle.control_sweeps.specs.Tables.{Below}
+use Rattle.control_steps.specs.declared.Walk.{Walk}
+
+-- the tables, the bits and the log have room for the network of m places from o
+pub record Room (o m : ℕ) (w : Walk) (values trails marks bits log : List ℕ) : Type 0 where
+  pub places : o + m ≤ 1024
+  pub values-room : o + m ≤ length values
+  pub trails-room : o + m ≤ length trails
+  pub marks-room : up m ≤ length marks
+  pub bits-room : w .b + W m ≤ length bits
+  pub few : w .b + W m ≤ 9217
+  pub log-room : entryWords * (w .e + E m) ≤ length log
+
+-- hidden numbers are small, so that no sum of 16 bits overflows: values are below v, marks and bits are 0 or 1
+pub record Tidy (v : ℕ) (x : State) : Type 0 where
+  pub values-below : Below v (x .values)
+  pub marks-below : Below 2 (x .marks)
+  pub bits-below : Below 2 (x .bits)
+  pub f-below : x .f < 32768
+  pub c-below : x .c < 32768
+  pub g-below : x .g < 32768
+  pub s-below : x .s < 32768
+
+-- and trails are short: a network of m places can lengthen each of those of its places
+unfoldable pub Lengthens : ℕ → ℕ → List ℕ → Type 0
+Lengthens o m trails = (i : ℕ) → i < m → (getD trails (o + i) 0 + 1) * (m - 1) ≤ 1023
