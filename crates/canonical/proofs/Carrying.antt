@@ -11,6 +11,7 @@ use borrow.Author.Tests.{eqb-true, eqb-false}
 use lib.ListN.{length, getD, length-append}
 use lib.Seq.{drop-at}
 use lib.Dec.{eqb}
+use Rattle.bits.specs.Bits.{Bits}
 use Rattle.counts.specs.Counts.{up}
 use Rattle.network.specs.Wiring.{Wiring, Lawful, Side}
 use Rattle.network.specs.Network.{Network, wires, split, network, switchCount, down}
@@ -20,7 +21,7 @@ use Rattle.network.proofs.Places.{Lies, lies-top, lies-both, lies-below, crosse
 use Rattle.network.proofs.Where.{goesTo, across, across-below, through, inHalves, input, output}
 use Rattle.network.proofs.Order.{order-at}
 use Rattle.permutation.specs.Permutations.{IsPermutation}
-use Rattle.canonical.specs.Rule.{held, half, Apart, LowestStraight, Finished, orderOfHalf, Bits, Canonical}
+use Rattle.canonical.specs.Rule.{held, half, Apart, LowestStraight, Finished, orderOfHalf, Canonical}
 use Rattle.canonical.proofs.Sides.{bitAt, bitAt-past, turn}
 use Rattle.canonical.proofs.Held.{entry-in}
 use Rattle.canonical.proofs.Halves.{feeder, feeder-enters, half-at, imagined, top-permutation, bottom-permutation}
@@ -115,7 +116,7 @@ module _
     carries-finished B j l p h e =
         let s : turn (bitAt b j) (half a p) ≡ true =
         ap (λ (v : Side). half b (v .0, half a p)) (sym e) ∙ side-is p h ∙ ap (λ (v : Side). v .1) e in
-        bit-number (getD b j 0) (half a p) (B j (omega arith)) (turn-true (bitAt b j) (half a p) s)
+        bit-number (getD b j 0) (half a p) (B j) (turn-true (bitAt b j) (half a p) s)
 
     -- the halves carry their orders
     in-half : (t : Bool) (c i : ℕ) → i < c → Lies m (i, t) → cond t (g i) (f i) ≡ getD (orderOfHalf w (up m) o a t c) i 0

@@ -10,10 +10,11 @@ use native.Mathlib.Decide.{decLt}
 use borrow.Author.Tests.{lt-ltb, le-ltb, eqb-false}
 use lib.ListN.{length, getD, List·getD-eq-default}
 use lib.Dec.{eqb, ltb}
+use Rattle.bits.specs.Bits.{Bits}
 use Rattle.network.specs.Wiring.{Wiring, Lawful, Side}
 use Rattle.permutation.specs.Permutations.{IsPermutation, placeOf}
 use Rattle.permutation.proofs.Inverses.{place-below, place-holds}
-use Rattle.canonical.specs.Rule.{held, half, HoldAssociates, Apart, Linked, Ring, here, link, LowestStraight, Bits}
+use Rattle.canonical.specs.Rule.{held, half, HoldAssociates, Apart, Linked, Ring, here, link, LowestStraight}
 use Rattle.canonical.proofs.Sides.{bitAt, bitAt-past, other, other-other, other-unlike, unlike-not, not-self}
 use Rattle.canonical.proofs.Rings.{Chain, stay, along, Matching, Proper, Ruled}
 
@@ -176,11 +177,7 @@ module _ {w : Wiring} (L : Lawful w) (k m : ℕ) (fits : m ≤ k + k) (o : List 
     module _ (enough : suc (length input) ≡ k) (B : Bits input) where
       straight-zero : (i : ℕ) → bitAt input i ≡ false → getD input i 0 ≡ 0
       unfolding Bits
-      straight-zero i e = go (decLt i (length input))
-        where
-          go : Dec (i < length input) → getD input i 0 ≡ 0
-          go (yes l) = omega (arith, B i l, eqb-false (getD input i 0) 1 e)
-          go (no l) = List·getD-eq-default input 0 {n = i} (omega arith)
+      straight-zero i e = omega (arith, B i, eqb-false (getD input i 0) 1 e)
 
       pub ruled-lowest : Ruled k (mate w k o) (bitAt input) → LowestStraight w k o input
       unfolding LowestStraight

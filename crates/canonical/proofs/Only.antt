@@ -10,14 +10,15 @@ use borrow.Author.Tests.{eqb-true, eqb-false}
 use lib.ListN.{length, getD, length-append, List·getD-append}
 use lib.Seq.{ext-getD, getD-append-add}
 use lib.Dec.{eqb}
+use Rattle.bits.specs.Bits.{Bits}
 use Rattle.counts.specs.Counts.{up, W}
 use Rattle.network.specs.Wiring.{Wiring, Lawful}
 use Rattle.network.specs.Network.{Network, wires, split, network, switchCount, down}
 use Rattle.network.proofs.Shape.{Sized, none, some, sized, count-is}
 use Rattle.permutation.specs.Permutations.{IsPermutation}
-use Rattle.canonical.specs.Rule.{half, Finished, orderOfHalf, Bits, Settled, SettledWith, Canonical, ExactlyOne}
+use Rattle.canonical.specs.Rule.{half, Finished, orderOfHalf, Settled, SettledWith, Canonical, ExactlyOne}
 use Rattle.canonical.proofs.Rings.{unique}
-use Rattle.canonical.proofs.Sides.{bitAt, bit-below}
+use Rattle.canonical.proofs.Sides.{bits-within, bitAt, bit-below}
 use Rattle.canonical.proofs.Held.{seat, seat-below, seat-holds, mate, matching, apart-proper, lowest-ruled}
 use Rattle.canonical.proofs.Halves.{fits, top-permutation, bottom-permutation}
 use Rattle.canonical.proofs.Setting.{setting, canonical-exists}
@@ -40,15 +41,15 @@ canonical-length w n o bits C = canonical-count w (network n) o bits C ∙ count
 
 bits-append : (xs ys : List ℕ) → Bits xs → Bits ys → Bits (xs ++ ys)
 unfolding Bits
-bits-append xs ys X Y i l = go (decLt i (length xs))
+bits-append xs ys X Y i = go (decLt i (length xs))
   where
     go : Dec (i < length xs) → getD (xs ++ ys) i 0 < 2
-    go (yes h) = rw (List·getD-append xs ys 0 i h) (X i h)
+    go (yes h) = rw (List·getD-append xs ys 0 i h) (X i)
     go (no h) =
         let j = i - length xs in
         let e : length xs + j ≡ i = omega arith in
         subst (λ i. getD (xs ++ ys) i 0 < 2) e
-        (rw (getD-append-add xs ys j 0) (Y j (omega (arith, length-append xs ys))))
+        (rw (getD-append-add xs ys j 0) (Y j))
 
 same-bit : (a b : ℕ) → a < 2 → b < 2 → eqb a 1 ≡ eqb b 1 → a ≡ b
 same-bit a b h l e = go (eqb a 1) refl
@@ -69,7 +70,7 @@ module _ {w : Wiring} (L : Lawful w) (m : ℕ) (two : 2 ≤ m) (o : List ℕ) (O
       let la = A .input-count in
       let lc = C .input-count in
       ext-getD 0 a c (la ∙ sym lc)
-      (λ i l. same-bit (getD a i 0) (getD c i 0) (A .input-bits i l) (C .input-bits i (omega arith))
+      (λ i l. same-bit (getD a i 0) (getD c i 0) (A .input-bits i) (C .input-bits i)
       (unique k (mate w k o) (matching L k m f o O) (bitAt a) (bitAt c)
       (apart-proper L k m f o O a (A .apart))
       (apart-proper L k m f o O c (C .apart))
@@ -94,10 +95,9 @@ module _ {w : Wiring} (L : Lawful w) (m : ℕ) (two : 2 ≤ m) (o : List ℕ) (O
       ext-getD 0 b d (lb ∙ sym ld) (λ j l. output-at a b A j (omega arith) ∙ sym (output-at a d C j (omega arith)))
 
   pub output-bits : (a b : List ℕ) → Settled w m o a b → Bits b
-  unfolding Bits
-  output-bits a b A j l =
+  output-bits a b A =
       let lb = A .output-count in
-      rw (output-at a b A j (omega arith)) (bit-below (half a (seat w (up m) o (j, true))))
+      bits-within b (λ j l. rw (output-at a b A j (omega arith)) (bit-below (half a (seat w (up m) o (j, true)))))
 
   -- and so is all, if the halves are
   module _
@@ -151,8 +151,8 @@ canonical-unique L n o O = canonical-unique-of L (sized n) o O
 
 pub canonical-bits-of : {w : Wiring} → Lawful w → {m : ℕ} {net : Network} → Sized m net → (o : List ℕ) → IsPermutation m o
     → (a : List ℕ) → Canonical w net o a → Bits a
-unfolding Canonical Bits
-canonical-bits-of L (none h) o O a A = λ i l. absurd (omega (arith, ap length A))
+unfolding Canonical
+canonical-bits-of L (none h) o O a A = bits-within a (λ i l. absurd (omega (arith, ap length A)))
 canonical-bits-of {w} L {m} (some {top = top} {bottom = bottom} h t u) o O a A =
     let S = A .settled in
     subst Bits (sym (A .in-sequence))

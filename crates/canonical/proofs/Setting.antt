@@ -6,13 +6,14 @@ use mathlib.Core.List.{List, [], _++_}
 use Prim.Native.Nat.{ℕ, _-_, _≤_, _<_}
 use native.Mathlib.Omega.{arith}
 use lib.ListN.{length}
+use Rattle.bits.specs.Bits.{Bits}
 use Rattle.counts.specs.Counts.{up}
 use Rattle.network.specs.Wiring.{Wiring, Lawful}
 use Rattle.network.specs.Network.{Network, wires, split, network, down}
 use Rattle.network.proofs.Shape.{Sized, none, some, sized}
 use Rattle.permutation.specs.Permutations.{IsPermutation, tabulate}
 use Rattle.permutation.proofs.Tables.{length-tabulate, tabulate-at}
-use Rattle.canonical.specs.Rule.{half, Apart, LowestStraight, Finished, orderOfHalf, Bits, Settled, Canonical}
+use Rattle.canonical.specs.Rule.{half, Apart, LowestStraight, Finished, orderOfHalf, Settled, Canonical}
 use Rattle.canonical.proofs.Sides.{bitAt}
 use Rattle.canonical.proofs.Rings.{proper-same, ruled-same}
 use Rattle.canonical.proofs.Round.{Stage, Done}

@@ -6,9 +6,10 @@ use mathlib.Core.Bool.{Bool, true, false, not, cond, Bool-discrete, Bool·not-no
 use mathlib.Core.List.{List}
 use Prim.Native.Nat.{ℕ, _≤_, _<_}
 use native.Mathlib.Omega.{arith}
-use native.Mathlib.Decide.{ℕ-discrete}
+use native.Mathlib.Decide.{decLt, ℕ-discrete}
 use lib.Dec.{eqb}
 use lib.ListN.{length, getD, List·getD-eq-default}
+use Rattle.bits.specs.Bits.{Bits}
 use Rattle.network.specs.Wiring.{Side}
 
 -- ---- Booleans
@@ -68,6 +69,14 @@ abbrev pub bitAt : List ℕ → ℕ → Bool
 bitAt bits i = eqb (getD bits i 0) 1
 
 -- the bit that is 1 where t is false
+-- what stands past the end is 0
+pub bits-within : (bits : List ℕ) → ((i : ℕ) → i < length bits → getD bits i 0 < 2) → Bits bits
+unfolding Bits
+bits-within bits h i = elim (decLt i (length bits)) [
+  | yes l ↦ h i l
+  | no l ↦ rw (List·getD-eq-default bits 0 {n = i} (omega arith)) (omega arith)
+]
+
 pub bit-is : (t : Bool) → eqb (cond t 0 1) 1 ≡ not t
 bit-is true = refl
 bit-is false = refl

@@ -11,10 +11,10 @@ use borrow.Author.Tests.{eq-eqb, eqb-true, lt-ltb}
 use lib.ListN.{length, getD, set, replicate, List·getD-eq-default, length-set, length-replicate}
 use lib.Seq.{getD-set-same, getD-set-other}
 use lib.Dec.{eqb, ltb}
+use Rattle.bits.specs.Bits.{Bits}
 use Rattle.network.specs.Wiring.{Side}
 use Rattle.permutation.proofs.Tables.{getD-blank}
-use Rattle.canonical.specs.Rule.{Bits}
-use Rattle.canonical.proofs.Sides.{bitAt, bit-is, bit-below, other}
+use Rattle.canonical.proofs.Sides.{bits-within, bitAt, bit-is, bit-below, other}
 use Rattle.canonical.proofs.Rings.{Matching}
 use Rattle.canonical.proofs.Marks.{lowest, lowest-is}
 use Rattle.canonical.proofs.Round.{Stage, Round, Done}
@@ -90,14 +90,11 @@ pub record Lengths (k : ℕ) (x : Walk) : Type 0 where
 
 set-bits : (bits : List ℕ) (i : ℕ) (t : Bool) → Bits bits → Bits (set bits i (cond t 0 1))
 unfolding Bits
-set-bits bits i t B j l = go (ℕ-discrete j i)
+set-bits bits i t B = bits-within (set bits i (cond t 0 1)) (λ j l. go j (rw length-set at l) (ℕ-discrete j i))
   where
-    inside : j < length bits
-    inside = rw length-set at l
-
-    go : Dec (j ≡ i) → getD (set bits i (cond t 0 1)) j 0 < 2
-    go (yes e) = rw (e, getD-set-same bits i (cond t 0 1) 0 (rw e at inside)) (bit-below t)
-    go (no d) = rw (getD-set-other bits i j (cond t 0 1) 0 d) (B j inside)
+    go : (j : ℕ) → j < length bits → Dec (j ≡ i) → getD (set bits i (cond t 0 1)) j 0 < 2
+    go j l (yes e) = rw (e, getD-set-same bits i (cond t 0 1) 0 (rw e at l)) (bit-below t)
+    go j l (no d) = rw (getD-set-other bits i j (cond t 0 1) 0 d) (B j)
 
 module _ (k : ℕ) (mate : Side → Side) (x : Walk) (Z : Lengths k x) where
   round-lengths : Lengths k (round k mate x)
@@ -142,7 +139,7 @@ walk-lengths zero k mate l =
     record {
       of-marks = length-replicate k false;
       of-bits = rw (length-replicate {A = ℕ} (k - 1) 0) (omega arith);
-      are-bits = λ i _. rw (getD-blank {A = ℕ} (k - 1) i 0) (omega arith);
+      are-bits = λ i. rw (getD-blank {A = ℕ} (k - 1) i 0) (omega arith);
     }
 walk-lengths (suc n) k mate l = round-lengths k mate (walk n k mate) (walk-lengths n k mate l)
 

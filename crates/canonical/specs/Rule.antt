@@ -7,6 +7,7 @@ use mathlib.Core.List.{List, [], _++_}
 use Prim.Native.Nat.{ℕ, _-_, _≤_, _<_}
 use lib.Dec.{eqb}
 use lib.ListN.{length, getD}
+use Rattle.bits.specs.Bits.{Bits}
 use Rattle.counts.specs.Counts.{up}
 use Rattle.network.specs.Wiring.{Wiring, Side}
 use Rattle.network.specs.Network.{Network, wires, split, network, down}
@@ -65,10 +66,6 @@ Finished w m o input output =
 -- pair i whose half it is, and has to leave it at the place of its value's pair.
 unfoldable pub orderOfHalf : Wiring → ℕ → List ℕ → List ℕ → Bool → ℕ → List ℕ
 orderOfHalf w k o input t c = tabulate (λ i. held w k o (i, half input (i, t)) .0) c
-
--- each is 0 or 1
-unfoldable pub Bits : List ℕ → Type 0
-Bits bits = (i : ℕ) → i < length bits → getD bits i 0 < 2
 
 -- what the input and the output bits of one network have to be
 pub record Settled (w : Wiring) (m : ℕ) (o input output : List ℕ) : Type 0 where

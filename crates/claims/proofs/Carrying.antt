@@ -4,8 +4,7 @@ use mathlib.Core.Path.{_≡_, refl, sym, ap, _∙_}
 use mathlib.Core.List.{List, []}
 use Prim.Native.Nat.{ℕ, _*_, _≤_, _<_}
 use native.Mathlib.Omega.{arith}
-use native.Mathlib.Decide.{decLt}
-use lib.ListN.{length, getD, List·getD-eq-default}
+use lib.ListN.{length, getD}
 use Rattle.answers.specs.Answers.{accepted}
 use Rattle.answers.specs.Questions.{allYes, firstNo}
 use Rattle.bits.specs.Bits.{Bits}
@@ -34,12 +33,7 @@ module _ (n : ℕ) (order : List ℕ) (small : n ≤ 1024) (O : IsPermutation n 
   house = exactly-one paper-lawful n order O
 
   house-bits : Bits (house .setting)
-  unfolding Bits Rattle.canonical.specs.Rule.Bits
-  house-bits i = go (decLt i (length (house .setting)))
-    where
-      go : Dec (i < length (house .setting)) → getD (house .setting) i 0 < 2
-      go (yes l) = canonical-bits paper-lawful n order O (house .setting) (house .canonical) i l
-      go (no l) = rw (List·getD-eq-default (house .setting) 0 {n = i} (omega arith)) (omega arith)
+  house-bits = canonical-bits paper-lawful n order O (house .setting) (house .canonical)
 
   house-setting : Setting n (house .setting)
   house-setting = record { count = canonical-length paper n order (house .setting) (house .canonical); are-bits = house-bits }

@@ -4,10 +4,9 @@ use mathlib.Core.Path.{_≡_, refl, sym, ap, _∙_}
 use mathlib.Core.List.{List, []}
 use Prim.Native.Nat.{ℕ, _+_, _*_, _≤_, _<_}
 use native.Mathlib.Omega.{arith}
-use native.Mathlib.Decide.{decLt}
 use borrow.Author.Tests.{eqb-true}
 use lib.Dec.{eqb}
-use lib.ListN.{length, getD, take, List·getD-eq-default}
+use lib.ListN.{length, getD, take}
 use lib.Seq.{length-take-le}
 use Rattle.answers.specs.declared.Answer.{Answer}
 use Rattle.answers.specs.Answers.{refusal}
@@ -34,15 +33,10 @@ use Rattle.cmd_sheet.specs.Calls.{sheetFor, sheetCall}
 
 -- the setting of an order that passes question 6 consists of bits
 setting-bits : (order : List ℕ) → firstNo (entryQuestions order) ≡ allYes → Bits (settingFor paper order)
-unfolding Bits Rattle.canonical.specs.Rule.Bits
-setting-bits order y i = go (decLt i (length (settingFor paper order)))
+setting-bits order y = canonical-bits paper-lawful (length order) order O (settingFor paper order) (setting-canonical paper-lawful (length order) order O)
   where
     O : IsPermutation (length order) order
     O = passes-permutation order (eqb-true (firstBadEntry order) (length order) (passed 6 (firstBadEntry order) (eqb (firstBadEntry order) (length order)) [] y .here))
-
-    go : Dec (i < length (settingFor paper order)) → getD (settingFor paper order) i 0 < 2
-    go (yes l) = canonical-bits paper-lawful (length order) order O (settingFor paper order) (setting-canonical paper-lawful (length order) order O) i l
-    go (no l) = rw (List·getD-eq-default (settingFor paper order) 0 {n = i} (omega arith)) (omega arith)
 
 module _ (input before out : List ℕ) {read : Answer} {bits : List ℕ} (O : outcome read bits ≡ orderSetting input before) where
   pub sheet-refused : (read .number ≡ 0 → ⊥) → outcome read out ≡ sheetCall input out

@@ -15,7 +15,8 @@ use Rattle.counts.proofs.Rule.{W-more}
 use Rattle.network.specs.Wiring.{Wiring, Lawful, Side}
 use Rattle.network.specs.Network.{down}
 use Rattle.permutation.specs.Permutations.{IsPermutation}
-use Rattle.canonical.specs.Rule.{held, half, Apart, LowestStraight, Bits}
+use Rattle.bits.specs.Bits.{Bits}
+use Rattle.canonical.specs.Rule.{held, half, Apart, LowestStraight}
 use Rattle.canonical.proofs.Halves.{feeder}
 use Rattle.canonical.proofs.Held.{entry-in}
 use Rattle.canonical.proofs.Setting.{walk-settles}

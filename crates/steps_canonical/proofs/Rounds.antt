@@ -12,8 +12,9 @@ use borrow.Author.Tests.{lt-ltb, eqb-true}
 use Rattle.counts.specs.Counts.{up}
 use Rattle.network.specs.Wiring.{Wiring, Lawful}
 use Rattle.permutation.specs.Permutations.{IsPermutation}
-use Rattle.canonical.specs.Rule.{Apart, LowestStraight, Bits}
-use Rattle.canonical.proofs.Sides.{clash, bitAt, bitAt-past}
+use Rattle.bits.specs.Bits.{Bits}
+use Rattle.canonical.specs.Rule.{Apart, LowestStraight}
+use Rattle.canonical.proofs.Sides.{clash, bits-within, bitAt, bitAt-past}
 use Rattle.canonical.proofs.Rings.{Matching}
 use Rattle.canonical.proofs.Round.{Stage, Begun, Round, Done}
 use Rattle.canonical.proofs.Rounds.{all-rounds}
@@ -207,10 +208,12 @@ module _ {w : Wiring} (L : Lawful w) (N : Subnetwork) (some : 0 < N .size) (o : 
     input-at i l = part-at (N .bit) (k - 1) (after .bits) i (omega arith)
 
     pub input-bits : Bits input
-    unfolding Bits Digits
-    input-bits i l =
+    unfolding Digits
+    input-bits =
+        bits-within input
+        (λ i l.
         let h : suc i < k = omega (arith, input-count) in
-        rw (input-at i h) (kept k .digits i h (all-marked i (omega arith)))
+        rw (input-at i h) (kept k .digits i h (all-marked i (omega arith))))
 
     same-bit : (i : ℕ) → i < k → at k .bit i ≡ bitAt input i
     unfolding step1
