@@ -1,15 +1,32 @@
--- An argument's digits, one at a time.
+-- How many arguments there are; an argument's digits, one at a time.
 -- Assumes nothing.
 use mathlib.Core.Path.{_≡_, refl, sym, ap, _∙_}
+use mathlib.Core.Bool.{false}
 use mathlib.Core.List.{List, [], _∷_}
 use Prim.Native.Nat.{ℕ, zero, suc, _+_, _-_, _*_, _≤_, _<_, min}
 use native.Mathlib.Numerals.{add-one}
 use native.Mathlib.Omega.{arith}
-use borrow.Author.Tests.{le-leb, lt-leb}
+use native.Mathlib.Decide.{ℕ-discrete}
+use borrow.Author.Tests.{le-leb, lt-leb, eq-eqb, ne-eqb}
+use lib.Dec.{eqb}
 use lib.ListN.{length, getD, drop, drop-of-length-le}
 use lib.Seq.{drop-cons}
 use Rattle.cmd_console.specs.declared.Argument.the-variants.{Number, NoNumber}
 use Rattle.cmd_console.specs.Decimal.{most, valueOn, decimalIn}
+
+-- ---- how many arguments there are
+
+pub all-none : (all k : ℕ) → all ≡ 0 → false ≡ eqb all (k + 1)
+all-none all k e = sym (ne-eqb all (k + 1) (λ d. omega arith))
+
+pub all-some : (all k : ℕ) → (all ≡ 0 → ⊥) → eqb (all - 1) k ≡ eqb all (k + 1)
+all-some all k n = go (ℕ-discrete all (k + 1))
+  where
+    go : Dec (all ≡ k + 1) → eqb (all - 1) k ≡ eqb all (k + 1)
+    go (yes e) = rw (eq-eqb all (k + 1) e) (eq-eqb (all - 1) k (omega arith))
+    go (no d) = rw (ne-eqb all (k + 1) d) (ne-eqb (all - 1) k (λ e. d (omega arith)))
+
+-- ---- a number
 
 pub none : (text : List ℕ) → length text ≡ 0 → NoNumber ≡ decimalIn text
 unfolding decimalIn

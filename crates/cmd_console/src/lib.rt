@@ -3,6 +3,7 @@
 ghost use mathlib.Core.Path.{_≡_};
 ghost use mathlib.Core.List.{_++_};
 ghost use Prim.Native.Nat.{_+_, _≤_, min};
+ghost use lib.Dec.{eqb};
 ghost use lib.ListN.{length, replicate};
 ghost use Rattle.answers.specs.declared.Answer.{Answer};
 ghost use Rattle.io.specs.Counts.{Counts};
@@ -71,15 +72,17 @@ fn wide(x: u8) -> usize
 
 // Whether the program was started with other than k arguments, which it then tells.
 pub fn misused(program: Program, k: usize) -> bool {
-    if arguments_are(k) {
+    if are_arguments(os::arg_count(), k) {
         return false;
     }
     tell_usage(program);
     true
 }
 
-fn arguments_are(k: usize) -> bool {
-    let all = os::arg_count();
+// Whether what a program was started with, its own name among it, is k arguments.
+fn are_arguments(all: usize, k: usize) -> bool
+    ensures { λ r. ⌜ r ≡ eqb all (k + 1) ⌝ }
+{
     if all == 0 {
         return false;
     }
