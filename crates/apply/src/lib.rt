@@ -26,7 +26,9 @@ fn run(
     e: usize,
 ) -> usize
     requires { ⌜ Lent width m o (W m) e (now blocks) (now bits) (now log) ⌝ }
-    ensures { λ r. ⌜ (r ≡ e + W m) × Ran width m (forward [] paper (network m) (drop e (now (bits .entry)))) (switches paper (network m) (λ i. o + i)) e (now (blocks .entry)) (now (log .entry)) (now (blocks .exit)) (now (log .exit)) ⌝ }
+    ensures { λ r. ⌜ (r ≡ e + W m) × Ran width m (forward [] paper (network m) (drop e (now (bits .entry))))
+        (switches paper (network m) (λ i. o + i)) e (now (blocks .entry)) (now (log .entry)) (now (blocks .exit))
+        (now (log .exit)) ⌝ }
 {
     if m < 2 {
         return e;
@@ -57,7 +59,9 @@ fn run_back(
     e: usize,
 ) -> usize
     requires { ⌜ Lent width m o (W m) e (now blocks) (now bits) (now log) ⌝ }
-    ensures { λ r. ⌜ (r ≡ e + W m) × Ran width m (backward [] paper (network m) (bitsBack (now (bits .entry)) e (W m))) (reverse (switches paper (network m) (λ i. o + i))) e (now (blocks .entry)) (now (log .entry)) (now (blocks .exit)) (now (log .exit)) ⌝ }
+    ensures { λ r. ⌜ (r ≡ e + W m) × Ran width m (backward [] paper (network m) (bitsBack (now (bits .entry)) e (W m)))
+        (reverse (switches paper (network m) (λ i. o + i))) e (now (blocks .entry)) (now (log .entry)) (now (blocks .exit))
+        (now (log .exit)) ⌝ }
 {
     if m < 2 {
         return e;
@@ -85,7 +89,8 @@ pub fn apply(
     bits: &[u8],
     log: &mut [u16],
 ) -> answers::Answer
-    ensures { λ r. ⌜ logged r (now (blocks .exit)) (now (log .exit)) ≡ applyCall n width (now (blocks .entry)) (now (bits .entry)) (now (log .entry)) ⌝ }
+    ensures { λ r. ⌜ logged r (now (blocks .exit)) (now (log .exit))
+        ≡ applyCall n width (now (blocks .entry)) (now (bits .entry)) (now (log .entry)) ⌝ }
 {
     let asked = apply_questions::ask(n, width, blocks.len(), bits, log.len());
     if asked.number != 0 { // nothing is written
@@ -102,7 +107,8 @@ pub fn apply_inverse(
     bits: &[u8],
     log: &mut [u16],
 ) -> answers::Answer
-    ensures { λ r. ⌜ logged r (now (blocks .exit)) (now (log .exit)) ≡ inverseCall n width (now (blocks .entry)) (now (bits .entry)) (now (log .entry)) ⌝ }
+    ensures { λ r. ⌜ logged r (now (blocks .exit)) (now (log .exit))
+        ≡ inverseCall n width (now (blocks .entry)) (now (bits .entry)) (now (log .entry)) ⌝ }
 {
     let asked = apply_questions::ask(n, width, blocks.len(), bits, log.len());
     if asked.number != 0 {

@@ -57,7 +57,8 @@ pub fn layer(
     e: usize,
 )
     requires { ⌜ Lent width m o c e (now blocks) (now bits) (now log) × (c ≤ down m) ⌝ }
-    ensures { λ _. ⌜ Ran width m (layer [] paper (up m) c (drop e (now (bits .entry)))) (layerEntries paper (placed o m) c) e (now (blocks .entry)) (now (log .entry)) (now (blocks .exit)) (now (log .exit)) ⌝ }
+    ensures { λ _. ⌜ Ran width m (layer [] paper (up m) c (drop e (now (bits .entry)))) (layerEntries paper (placed o m) c) e
+        (now (blocks .entry)) (now (log .entry)) (now (blocks .exit)) (now (log .exit)) ⌝ }
 {
     if width < 1 { // never so: it tells the compiler that each exchange has bytes
         return;
@@ -87,7 +88,8 @@ pub fn layer_back(
     e: usize,
 )
     requires { ⌜ Lent width m o c e (now blocks) (now bits) (now log) × (c ≤ down m) ⌝ }
-    ensures { λ _. ⌜ Ran width m (layerBack [] paper (up m) c (bitsBack (now (bits .entry)) e c)) (reverse (layerEntries paper (placed o m) c)) e (now (blocks .entry)) (now (log .entry)) (now (blocks .exit)) (now (log .exit)) ⌝ }
+    ensures { λ _. ⌜ Ran width m (layerBack [] paper (up m) c (bitsBack (now (bits .entry)) e c)) (reverse
+        (layerEntries paper (placed o m) c)) e (now (blocks .entry)) (now (log .entry)) (now (blocks .exit)) (now (log .exit)) ⌝ }
 {
     if width < 1 { // as in `layer`
         return;

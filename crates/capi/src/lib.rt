@@ -38,7 +38,8 @@ fn tell(a: answers::Answer) -> CAnswer
 // 01: set.
 #[no_mangle]
 pub extern "C" fn lomuveran_control_bits(order: &[u16], bits: &mut [u8], log: &mut [u16]) -> CAnswer
-    ensures { λ r. ⌜ logged (answerIn r) (now (bits .exit)) (now (log .exit)) ≡ setCall (now (order .entry)) (now (bits .entry)) (now (log .entry)) ⌝ }
+    ensures { λ r. ⌜ logged (answerIn r) (now (bits .exit)) (now (log .exit))
+        ≡ setCall (now (order .entry)) (now (bits .entry)) (now (log .entry)) ⌝ }
 {
     tell(control::control_bits(order, bits, log))
 }
@@ -52,7 +53,8 @@ pub extern "C" fn lomuveran_apply(
     bits: &[u8],
     log: &mut [u16],
 ) -> CAnswer
-    ensures { λ r. ⌜ logged (answerIn r) (now (blocks .exit)) (now (log .exit)) ≡ applyCall n width (now (blocks .entry)) (now (bits .entry)) (now (log .entry)) ⌝ }
+    ensures { λ r. ⌜ logged (answerIn r) (now (blocks .exit)) (now (log .exit))
+        ≡ applyCall n width (now (blocks .entry)) (now (bits .entry)) (now (log .entry)) ⌝ }
 {
     tell(apply::apply(n, width, blocks, bits, log))
 }
@@ -66,7 +68,8 @@ pub extern "C" fn lomuveran_apply_inverse(
     bits: &[u8],
     log: &mut [u16],
 ) -> CAnswer
-    ensures { λ r. ⌜ logged (answerIn r) (now (blocks .exit)) (now (log .exit)) ≡ inverseCall n width (now (blocks .entry)) (now (bits .entry)) (now (log .entry)) ⌝ }
+    ensures { λ r. ⌜ logged (answerIn r) (now (blocks .exit)) (now (log .exit))
+        ≡ inverseCall n width (now (blocks .entry)) (now (bits .entry)) (now (log .entry)) ⌝ }
 {
     tell(apply::apply_inverse(n, width, blocks, bits, log))
 }
@@ -210,7 +213,8 @@ fn give(reply: Reply, entries: &mut [u16]) -> CAnswer
 // 01: fresh, of as many places as there are entries.
 #[no_mangle]
 pub extern "C" fn lomuveran_permutation_identity(entries: &mut [u16]) -> CAnswer
-    ensures { λ r. ⌜ outcome (answerIn r) (now (entries .exit)) ≡ lent (records.identityCall (length (now (entries .entry)))) (now (entries .entry)) ⌝ }
+    ensures { λ r. ⌜ outcome (answerIn r) (now (entries .exit)) ≡ lent (records.identityCall (length (now (entries .entry))))
+        (now (entries .entry)) ⌝ }
 {
     give(Permutation::identity(entries.len()), entries)
 }
@@ -226,7 +230,8 @@ pub extern "C" fn lomuveran_permutation_from_list(list: &[u16]) -> CAnswer
 
 #[no_mangle]
 pub extern "C" fn lomuveran_permutation_exchange(entries: &mut [u16], i: usize, j: usize) -> CAnswer
-    ensures { λ r. ⌜ outcome (answerIn r) (now (entries .exit)) ≡ lent (records.exchangeCall (recordIn (now (entries .entry))) i j) (now (entries .entry)) ⌝ }
+    ensures { λ r. ⌜ outcome (answerIn r) (now (entries .exit)) ≡ lent (records.exchangeCall (recordIn
+        (now (entries .entry))) i j) (now (entries .entry)) ⌝ }
 {
     let p = record_of(entries);
     give(p.exchange(i, j), entries)
@@ -235,7 +240,8 @@ pub extern "C" fn lomuveran_permutation_exchange(entries: &mut [u16], i: usize, 
 // First, then second, into first.
 #[no_mangle]
 pub extern "C" fn lomuveran_permutation_combine(first: &mut [u16], second: &[u16]) -> CAnswer
-    ensures { λ r. ⌜ outcome (answerIn r) (now (first .exit)) ≡ lent (records.combineCall (recordIn (now (first .entry))) (recordIn (now (second .entry)))) (now (first .entry)) ⌝ }
+    ensures { λ r. ⌜ outcome (answerIn r) (now (first .exit)) ≡ lent (records.combineCall (recordIn
+        (now (first .entry))) (recordIn (now (second .entry)))) (now (first .entry)) ⌝ }
 {
     let p = record_of(first);
     give(p.combine(record_of(second)), first)
@@ -243,7 +249,8 @@ pub extern "C" fn lomuveran_permutation_combine(first: &mut [u16], second: &[u16
 
 #[no_mangle]
 pub extern "C" fn lomuveran_permutation_inverse(entries: &mut [u16]) -> CAnswer
-    ensures { λ r. ⌜ outcome (answerIn r) (now (entries .exit)) ≡ lent (records.inverseCall (recordIn (now (entries .entry)))) (now (entries .entry)) ⌝ }
+    ensures { λ r. ⌜ outcome (answerIn r) (now (entries .exit)) ≡ lent (records.inverseCall (recordIn (now (entries .entry))))
+        (now (entries .entry)) ⌝ }
 {
     let p = record_of(entries);
     give(p.inverse(), entries)

@@ -13,6 +13,7 @@ use Rattle.answers.proofs.Buffers.{overlay-read}
 use Rattle.counts.specs.Counts.{W}
 use Rattle.counts.proofs.Most.{switches-few}
 use Rattle.network.specs.Wiring.{paper}
+use Rattle.network.specs.Log.{entryWords}
 use Rattle.network.specs.Blocks.{moved, movedBack}
 use Rattle.permutation.specs.Permutations.{IsPermutation}
 use Rattle.canonical.proofs.Paper.{paper-order}
@@ -38,7 +39,7 @@ module _ (n : ℕ) (order : List ℕ) (small : n ≤ 1024) (D : Demand2 n order)
   made = sheet n (D .house .setting)
 
   -- with room for the longest setting and the longest log, as the programs have it
-  module _ (buffer log : List ℕ) (room : length buffer ≡ 9217) (log-room : length log ≡ 27651) where
+  module _ (buffer log : List ℕ) (room : length buffer ≡ 9217) (log-room : length log ≡ entryWords * 9217) where
     read : SettingRead made (overlay buffer 0 setting) (Number n (W n))
     read =
         setting-read made buffer room {read = accepted n}
@@ -110,8 +111,8 @@ module _ (n : ℕ) (order : List ℕ) (small : n ≤ 1024) (D : Demand2 n order)
         sym is ∙ ap (λ t. outcome (accepted (length t)) (overlay out 0 t)) (text-is O)
 
   pub moves : Moves n order (sheet n (D .house .setting))
-  moves = moves-so (replicate 9217 0) (replicate 27651 0) (length-replicate {A = ℕ} 9217 0) (length-replicate {A = ℕ} 27651 0)
+  moves = moves-so (replicate 9217 0) (replicate (entryWords * 9217) 0) (length-replicate {A = ℕ} 9217 0) (length-replicate {A = ℕ} (entryWords * 9217) 0)
 
   pub shows : IsPermutation n order → (out : List ℕ) → showCall (sheet n (D .house .setting)) out
       ≡ outcome (accepted (length (shown n (D .house .setting) order))) (overlay out 0 (shown n (D .house .setting) order))
-  shows = shows-so (replicate 9217 0) (replicate 27651 0) (length-replicate {A = ℕ} 9217 0) (length-replicate {A = ℕ} 27651 0)
+  shows = shows-so (replicate 9217 0) (replicate (entryWords * 9217) 0) (length-replicate {A = ℕ} 9217 0) (length-replicate {A = ℕ} (entryWords * 9217) 0)

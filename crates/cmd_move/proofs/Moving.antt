@@ -2,7 +2,7 @@
 -- Assumes nothing.
 use mathlib.Core.Path.{_≡_, refl, ap, _∙_}
 use mathlib.Core.List.{List}
-use Prim.Native.Nat.{ℕ}
+use Prim.Native.Nat.{ℕ, _*_}
 use lib.ListN.{length, take}
 use Rattle.answers.specs.declared.Answer.{Answer}
 use Rattle.answers.specs.Questions.{firstNo}
@@ -16,6 +16,7 @@ use Rattle.numbers.specs.declared.ReadNumber.the-variants.{Number, Refused}
 use Rattle.rows.proofs.Reading.{row-stops}
 use Rattle.sheets.specs.Calls.{placesIn, readQuestions, settingIn, SettingRead}
 use Rattle.sheets.proofs.Setting.{setting-got, setting-there}
+use Rattle.network.specs.Log.{entryWords}
 use Rattle.apply_questions.specs.Questions.{applyQuestions}
 use Rattle.cmd_move.specs.Calls.{moveQuestions, moveCall}
 
@@ -28,7 +29,7 @@ module _
     unfolding moveQuestions
     move-refused t e =
         ends-refused (firstNo (moveQuestions sheet width (length blocks))) _ _ blocks
-        (asked-first (readQuestions sheet 9217) (applyQuestions (placesIn sheet) width (length blocks) (settingIn sheet) 27651)
+        (asked-first (readQuestions sheet 9217) (applyQuestions (placesIn sheet) width (length blocks) (settingIn sheet) (entryWords * 9217))
         (row-stops t R))
         (e ∙ ap answerOf t) refl
 
@@ -36,13 +37,13 @@ module _
         {n w : ℕ} {after : List ℕ}
         → read ≡ Number n w
         → outcome a after
-        ≡ settled (firstNo (applyQuestions n width (length blocks) (take w bits) 27651)) (W n)
+        ≡ settled (firstNo (applyQuestions n width (length blocks) (take w bits) (entryWords * 9217))) (W n)
         (direction n width (take w bits) blocks) blocks
         → outcome a after ≡ moveCall direction sheet width blocks
     unfolding moveQuestions
     move-settles t r =
         let G = setting-got sheet R t in
-        let move = applyQuestions (placesIn sheet) width (length blocks) (settingIn sheet) 27651 in
+        let move = applyQuestions (placesIn sheet) width (length blocks) (settingIn sheet) (entryWords * 9217) in
         r ∙ rw (setting-there sheet R t, G .value, asked-both (readQuestions sheet 9217) move (G .asked))
 
 -- what a call that keeps a log comes to, without the log

@@ -1,13 +1,14 @@
 -- Blocks moved under the setting of a sheet (01: read sheet, then mix or return).
 -- Assumes nothing: these are definitions.
 use mathlib.Core.List.{List, _++_}
-use Prim.Native.Nat.{ℕ}
+use Prim.Native.Nat.{ℕ, _*_}
 use lib.ListN.{length}
 use Rattle.answers.specs.Questions.{Question, firstNo}
 use Rattle.answers.specs.Outcomes.{Outcome, settled}
 use Rattle.counts.specs.Counts.{W}
 use Rattle.sheets.specs.Calls.{placesIn, readQuestions, settingIn}
 use Rattle.network.specs.Wiring.{paper}
+use Rattle.network.specs.Log.{entryWords}
 use Rattle.network.specs.Blocks.{moved, movedBack}
 use Rattle.apply_questions.specs.Questions.{applyQuestions}
 
@@ -15,7 +16,7 @@ use Rattle.apply_questions.specs.Questions.{applyQuestions}
 -- sheet and room for the longest log
 unfoldable pub moveQuestions : List ℕ → ℕ → ℕ → List Question
 moveQuestions sheet width filled =
-    readQuestions sheet 9217 ++ applyQuestions (placesIn sheet) width filled (settingIn sheet) 27651
+    readQuestions sheet 9217 ++ applyQuestions (placesIn sheet) width filled (settingIn sheet) (entryWords * 9217)
 
 -- the blocks moved in a direction, and as count the switches that acted
 abbrev pub moveCall : (ℕ → ℕ → List ℕ → List ℕ → List ℕ) → List ℕ → ℕ → List ℕ → Outcome

@@ -28,7 +28,9 @@ fn round(
     requires { ⌜ (2 ≤ m) × (o + m ≤ 1024) × (o + m ≤ length (now vals)) × (up m ≤ length (now marks))
         × (w .b + up m ≤ length (now bits)) × (entryWords * (w .e + 3) ≤ length (now log))
         × Tidy 32768 (state (now vals) [] (now marks) (now bits) w) ⌝ }
-    ensures { λ r. ⌜ Went (entry 1 o m ∷ entry 2 o m ∷ entry 3 o m ∷ []) 0 w r (now (log .entry)) (now (log .exit)) × ((ts : List ℕ) → state (now (vals .entry)) ts (now (marks .exit)) (now (bits .exit)) r ≡ roundsOf paper (within o m (w .b)) 1 (state (now (vals .entry)) ts (now (marks .entry)) (now (bits .entry)) w)) ⌝ }
+    ensures { λ r. ⌜ Went (entry 1 o m ∷ entry 2 o m ∷ entry 3 o m ∷ []) 0 w r (now (log .entry)) (now (log .exit))
+        × ((ts : List ℕ) → state (now (vals .entry)) ts (now (marks .exit)) (now (bits .exit)) r
+        ≡ roundsOf paper (within o m (w .b)) 1 (state (now (vals .entry)) ts (now (marks .entry)) (now (bits .entry)) w)) ⌝ }
 {
     let x = control_steps::step1(vals, marks, o, m, log, w);
     let y = control_steps::step2(vals, o, m, log, x);
@@ -48,7 +50,9 @@ fn rounds(
     requires { ⌜ (2 ≤ m) × (o + m ≤ 1024) × (o + m ≤ length (now vals)) × (up m ≤ length (now marks))
         × (w .b + up m ≤ length (now bits)) × (entryWords * (w .e + 3 * up m) ≤ length (now log))
         × Tidy 32768 (state (now vals) [] (now marks) (now bits) w) ⌝ }
-    ensures { λ r. ⌜ Went (rounds (up m) o m) 0 w r (now (log .entry)) (now (log .exit)) × ((ts : List ℕ) → state (now (vals .entry)) ts (now (marks .exit)) (now (bits .exit)) r ≡ roundsOf paper (within o m (w .b)) (up m) (state (now (vals .entry)) ts (now (marks .entry)) (now (bits .entry)) w)) ⌝ }
+    ensures { λ r. ⌜ Went (rounds (up m) o m) 0 w r (now (log .entry)) (now (log .exit)) × ((ts : List ℕ)
+        → state (now (vals .entry)) ts (now (marks .exit)) (now (bits .exit)) r
+        ≡ roundsOf paper (within o m (w .b)) (up m) (state (now (vals .entry)) ts (now (marks .entry)) (now (bits .entry)) w)) ⌝ }
 {
     let k = (m + 1) / 2;
     let mut x = w;
@@ -71,8 +75,12 @@ fn input_steps(
     log: &mut [u16],
     w: control_steps::Walk,
 ) -> control_steps::Walk
-    requires { ⌜ (2 ≤ m) × Room o m w (now vals) (now trails) (now marks) (now bits) (now log) × Tidy 32768 (state (now vals) (now trails) (now marks) (now bits) w) ⌝ }
-    ensures { λ r. ⌜ Went (inputEntries o m) (up m - 1) w r (now (log .entry)) (now (log .exit)) × (state (now (vals .exit)) (now (trails .exit)) (now (marks .exit)) (now (bits .exit)) r ≡ inputSteps paper (within o m (w .b)) (state (now (vals .entry)) (now (trails .entry)) (now (marks .entry)) (now (bits .entry)) w)) ⌝ }
+    requires { ⌜ (2 ≤ m) × Room o m w (now vals) (now trails) (now marks) (now bits) (now log)
+        × Tidy 32768 (state (now vals) (now trails) (now marks) (now bits) w) ⌝ }
+    ensures { λ r. ⌜ Went (inputEntries o m) (up m - 1) w r (now (log .entry)) (now (log .exit))
+        × (state (now (vals .exit)) (now (trails .exit)) (now (marks .exit)) (now (bits .exit)) r
+        ≡ inputSteps paper (within o m (w .b)) (state (now (vals .entry)) (now (trails .entry)) (now (marks .entry))
+        (now (bits .entry)) w)) ⌝ }
 {
     if m < 3 {
         return w;
@@ -92,8 +100,12 @@ fn enter(
     log: &mut [u16],
     w: control_steps::Walk,
 ) -> control_steps::Walk
-    requires { ⌜ (2 ≤ m) × Room o m w (now vals) (now trails) (now marks) (now bits) (now log) × Tidy 32768 (state (now vals) (now trails) (now marks) (now bits) w) × Lengthens o m (now trails) ⌝ }
-    ensures { λ r. ⌜ Went (inputEntries o m ++ (entry 5 o m ∷ [])) (up m - 1) w r (now (log .entry)) (now (log .exit)) × (state (now (vals .exit)) (now (trails .exit)) (now (marks .exit)) (now (bits .exit)) r ≡ step5 paper (within o m (w .b)) (inputSteps paper (within o m (w .b)) (state (now (vals .entry)) (now (trails .entry)) (now (marks .entry)) (now (bits .entry)) w))) ⌝ }
+    requires { ⌜ (2 ≤ m) × Room o m w (now vals) (now trails) (now marks) (now bits) (now log)
+        × Tidy 32768 (state (now vals) (now trails) (now marks) (now bits) w) × Lengthens o m (now trails) ⌝ }
+    ensures { λ r. ⌜ Went (inputEntries o m ++ (entry 5 o m ∷ [])) (up m - 1) w r (now (log .entry)) (now (log .exit))
+        × (state (now (vals .exit)) (now (trails .exit)) (now (marks .exit)) (now (bits .exit)) r
+        ≡ step5 paper (within o m (w .b)) (inputSteps paper (within o m (w .b)) (state (now (vals .entry))
+        (now (trails .entry)) (now (marks .entry)) (now (bits .entry)) w))) ⌝ }
 {
     let x = input_steps(vals, trails, marks, bits, o, m, log, w);
     control_steps::step5(vals, trails, o, m, log, x)
@@ -110,8 +122,12 @@ pub fn set_network(
     log: &mut [u16],
     w: control_steps::Walk,
 ) -> control_steps::Walk
-    requires { ⌜ Room o m w (now vals) (now trails) (now marks) (now bits) (now log) × Tidy (1024 + 2 * w .b) (state (now vals) (now trails) (now marks) (now bits) w) × Lengthens o m (now trails) ⌝ }
-    ensures { λ r. ⌜ Went (entriesOf paper (network m) (λ i. o + i)) (W m) w r (now (log .entry)) (now (log .exit)) × (state (now (vals .exit)) (now (trails .exit)) (now (marks .exit)) (now (bits .exit)) r ≡ setNet paper (network m) (λ i. o + i) (w .b) (state (now (vals .entry)) (now (trails .entry)) (now (marks .entry)) (now (bits .entry)) w)) ⌝ }
+    requires { ⌜ Room o m w (now vals) (now trails) (now marks) (now bits) (now log)
+        × Tidy (1024 + 2 * w .b) (state (now vals) (now trails) (now marks) (now bits) w) × Lengthens o m (now trails) ⌝ }
+    ensures { λ r. ⌜ Went (entriesOf paper (network m) (λ i. o + i)) (W m) w r (now (log .entry)) (now (log .exit))
+        × (state (now (vals .exit)) (now (trails .exit)) (now (marks .exit)) (now (bits .exit)) r
+        ≡ setNet paper (network m) (λ i. o + i) (w .b) (state (now (vals .entry)) (now (trails .entry)) (now (marks .entry))
+        (now (bits .entry)) w)) ⌝ }
 {
     if m < 2 {
         return w;

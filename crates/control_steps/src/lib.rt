@@ -44,7 +44,9 @@ fn passed(w: Walk, n: usize) -> Walk
 pub fn step1(vals: &[u16], marks: &[u8], o: usize, m: usize, log: &mut [u16], w: Walk) -> Walk
     requires { ⌜ (2 ≤ m) × (o + m ≤ 1024) × (o + m ≤ length (now vals)) × (up m ≤ length (now marks))
         × (entryWords * (w .e + 1) ≤ length (now log)) × Below 32768 (now vals) × Below 2 (now marks) × (w .f < 32768) ⌝ }
-    ensures { λ r. ⌜ Went (entry 1 o m ∷ []) 0 w r (now (log .entry)) (now (log .exit)) × ((ts bs : List ℕ) (bit : ℕ) → state (now (vals .entry)) ts (now (marks .entry)) bs r ≡ step1 paper (within o m bit) (state (now (vals .entry)) ts (now (marks .entry)) bs w)) ⌝ }
+    ensures { λ r. ⌜ Went (entry 1 o m ∷ []) 0 w r (now (log .entry)) (now (log .exit)) × ((ts bs : List ℕ) (bit : ℕ)
+        → state (now (vals .entry)) ts (now (marks .entry)) bs r ≡ step1 paper (within o m bit) (state (now (vals .entry)) ts
+        (now (marks .entry)) bs w)) ⌝ }
 {
     let k = (m + 1) / 2;
     let last = (k - 1) as u16;
@@ -68,7 +70,8 @@ pub fn step1(vals: &[u16], marks: &[u8], o: usize, m: usize, log: &mut [u16], w:
 pub fn step2(vals: &[u16], o: usize, m: usize, log: &mut [u16], w: Walk) -> Walk
     requires { ⌜ (2 ≤ m) × (o + m ≤ 1024) × (o + m ≤ length (now vals)) × (entryWords * (w .e + 1) ≤ length (now log))
         × Below 32768 (now vals) × (w .g < 32768) ⌝ }
-    ensures { λ r. ⌜ Went (entry 2 o m ∷ []) 0 w r (now (log .entry)) (now (log .exit)) × ((ts ms bs : List ℕ) (bit : ℕ) → state (now (vals .entry)) ts ms bs r ≡ step2 paper (within o m bit) (state (now (vals .entry)) ts ms bs w)) ⌝ }
+    ensures { λ r. ⌜ Went (entry 2 o m ∷ []) 0 w r (now (log .entry)) (now (log .exit)) × ((ts ms bs : List ℕ) (bit : ℕ)
+        → state (now (vals .entry)) ts ms bs r ≡ step2 paper (within o m bit) (state (now (vals .entry)) ts ms bs w)) ⌝ }
 {
     let k = ((m + 1) / 2) as u16;
     let s = control_sweeps::seek_for(vals, o, m, control_sweeps::other_of(k, w.g));
@@ -113,7 +116,9 @@ pub fn step3(
 ) -> Walk
     requires { ⌜ (2 ≤ m) × (o + m ≤ 1024) × (up m ≤ length (now marks)) × (w .b + up m ≤ length (now bits))
         × (entryWords * (w .e + 1) ≤ length (now log)) × Below 2 (now marks) × (w .s < 32768) × (w .c < 32768) ⌝ }
-    ensures { λ r. ⌜ Went (entry 3 o m ∷ []) 0 w r (now (log .entry)) (now (log .exit)) × ((vs ts : List ℕ) → state vs ts (now (marks .exit)) (now (bits .exit)) r ≡ step3 paper (within o m (w .b)) (state vs ts (now (marks .entry)) (now (bits .entry)) w)) ⌝ }
+    ensures { λ r. ⌜ Went (entry 3 o m ∷ []) 0 w r (now (log .entry)) (now (log .exit)) × ((vs ts : List ℕ)
+        → state vs ts (now (marks .exit)) (now (bits .exit)) r ≡ step3 paper (within o m (w .b)) (state vs ts
+        (now (marks .entry)) (now (bits .entry)) w)) ⌝ }
 {
     let k = (m + 1) / 2;
     let pair = control_sweeps::pair_of(k as u16, w.s);
@@ -144,7 +149,10 @@ pub fn step4(
     requires { ⌜ (2 ≤ m) × (o + m ≤ 1024) × (o + m ≤ length (now vals)) × (o + m ≤ length (now trails))
         × (up m ≤ length (now marks)) × (w .b + (up m - 1) ≤ length (now bits)) × (entryWords * (w .e + 1) ≤ length (now log))
         × Below 2 (now bits) ⌝ }
-    ensures { λ r. ⌜ Went (entry 4 o m ∷ []) (up m - 1) w r (now (log .entry)) (now (log .exit)) × (state (now (vals .exit)) (now (trails .exit)) (now (marks .exit)) (now (bits .entry)) r ≡ step4 paper (within o m (w .b)) (state (now (vals .entry)) (now (trails .entry)) (now (marks .entry)) (now (bits .entry)) w)) ⌝ }
+    ensures { λ r. ⌜ Went (entry 4 o m ∷ []) (up m - 1) w r (now (log .entry)) (now (log .exit))
+        × (state (now (vals .exit)) (now (trails .exit)) (now (marks .exit)) (now (bits .entry)) r
+        ≡ step4 paper (within o m (w .b)) (state (now (vals .entry)) (now (trails .entry)) (now (marks .entry))
+        (now (bits .entry)) w)) ⌝ }
 {
     let k = (m + 1) / 2;
     control_sweeps::act_on(vals, o, k, k - 1, bits, w.b);
@@ -166,7 +174,9 @@ pub fn step5(
     requires { ⌜ (2 ≤ m) × (o + m ≤ 1024) × (o + m ≤ length (now vals)) × (o + m ≤ length (now trails))
         × (w .b < 18446744073709551616) × (entryWords * (w .e + 1) ≤ length (now log)) × Below 32768 (now vals)
         × Within o m 32768 (now trails) ⌝ }
-    ensures { λ r. ⌜ Went (entry 5 o m ∷ []) 0 w r (now (log .entry)) (now (log .exit)) × ((ms bs : List ℕ) (bit : ℕ) → state (now (vals .exit)) (now (trails .exit)) ms bs r ≡ step5 paper (within o m bit) (state (now (vals .entry)) (now (trails .entry)) ms bs w)) ⌝ }
+    ensures { λ r. ⌜ Went (entry 5 o m ∷ []) 0 w r (now (log .entry)) (now (log .exit)) × ((ms bs : List ℕ) (bit : ℕ)
+        → state (now (vals .exit)) (now (trails .exit)) ms bs r ≡ step5 paper (within o m bit) (state (now (vals .entry))
+        (now (trails .entry)) ms bs w)) ⌝ }
 {
     let k = (m + 1) / 2;
     control_sweeps::gain_bits(trails, o, m, vals, k as u16);
@@ -184,8 +194,10 @@ fn output_switches(
     o: usize,
     m: usize,
 )
-    requires { ⌜ (2 ≤ m) × (o + m ≤ 1024) × (o + m ≤ length (now vals)) × (o + m ≤ length (now trails)) × (b + (m - up m) ≤ length (now bits)) × Below 2 (now bits) ⌝ }
-    ensures { λ _. ⌜ Switched o m b (now (vals .entry)) (now (trails .entry)) (now (bits .entry)) (now (vals .exit)) (now (trails .exit)) (now (bits .exit)) ⌝ }
+    requires { ⌜ (2 ≤ m) × (o + m ≤ 1024) × (o + m ≤ length (now vals)) × (o + m ≤ length (now trails))
+        × (b + (m - up m) ≤ length (now bits)) × Below 2 (now bits) ⌝ }
+    ensures { λ _. ⌜ Switched o m b (now (vals .entry)) (now (trails .entry)) (now (bits .entry)) (now (vals .exit))
+        (now (trails .exit)) (now (bits .exit)) ⌝ }
 {
     let k = (m + 1) / 2;
     let h = m - k;
@@ -208,7 +220,9 @@ pub fn step6(
     requires { ⌜ (2 ≤ m) × (o + m ≤ 1024) × (o + m ≤ length (now vals)) × (o + m ≤ length (now trails))
         × (w .b + (m - up m) ≤ length (now bits)) × (entryWords * (w .e + 1) ≤ length (now log)) × Below 2 (now bits)
         × Below 32768 (now vals) ⌝ }
-    ensures { λ r. ⌜ Went (entry 6 o m ∷ []) (m - up m) w r (now (log .entry)) (now (log .exit)) × ((ms : List ℕ) (bit : ℕ) → w .b ≡ outputBit (within o m bit) → state (now (vals .exit)) (now (trails .exit)) ms (now (bits .exit)) r ≡ step6 paper (within o m bit) (state (now (vals .entry)) (now (trails .entry)) ms (now (bits .entry)) w)) ⌝ }
+    ensures { λ r. ⌜ Went (entry 6 o m ∷ []) (m - up m) w r (now (log .entry)) (now (log .exit)) × ((ms : List ℕ) (bit : ℕ)
+        → w .b ≡ outputBit (within o m bit) → state (now (vals .exit)) (now (trails .exit)) ms (now (bits .exit)) r
+        ≡ step6 paper (within o m bit) (state (now (vals .entry)) (now (trails .entry)) ms (now (bits .entry)) w)) ⌝ }
 {
     let k = (m + 1) / 2;
     output_switches(vals, trails, bits, w.b, o, m);

@@ -47,7 +47,8 @@ pub fn read_setting(sheet: &[u8], bits: &mut [u8; counts::MOST_SWITCHES]) -> Rea
 
 // The form, n, and whether there is room for the bits: n with the place after it, or the refusal.
 fn read_head(input: &[u8], room: usize) -> ReadNumber
-    ensures { λ r. ⌜ r ≡ readOf (firstNo (headQuestions (now (input .entry)) room)) (placesIn (now (input .entry))) (fourteensAt (now (input .entry))) ⌝ }
+    ensures { λ r. ⌜ r ≡ readOf (firstNo (headQuestions (now (input .entry)) room)) (placesIn
+        (now (input .entry))) (fourteensAt (now (input .entry))) ⌝ }
 {
     let form = numbers::read_number(input, 0);
     let ReadNumber::Number(v, at) = form else {

@@ -1,9 +1,10 @@
 -- `setting_order::setting_of_order` meets its contract: the local log has room for the most entries.
 -- Assumes nothing.
-use Prim.Native.Nat.{ℕ}
+use Prim.Native.Nat.{ℕ, _*_}
 use native.Mathlib.Omega.{arith}
 use lib.ListN.{length, length-replicate}
 use borrow.Author.Needs.{needs}
+use Rattle.network.specs.Log.{entryWords}
 use Rattle.counts.proofs.Most.{switches-few, entries-few}
 use Rattle.control.proofs.Asked.{below-passed}
 use Rattle.setting_order.proofs.setting_of_order.Statement.{statement}
@@ -20,7 +21,7 @@ set-order-requires c κs =
       below-passed (s .args .order .now) (s .pre .0) (s .pre .1),
       s .pre .2,
       omega (arith, s .pre .2, switches-few n (s .pre .0)),
-      omega (arith, entries-few n (s .pre .0), length-replicate {A = ℕ} 49143 0),
+      omega (arith, entries-few n (s .pre .0), length-replicate {A = ℕ} (entryWords * 16381) 0),
     )
 
 same-length : tie.Need-same-length
