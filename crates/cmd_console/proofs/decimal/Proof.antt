@@ -48,7 +48,11 @@ loop-less : tie.Need-loop-less Inv-loop μ-loop
 loop-less c = search needs
 
 loop-again : tie.Need-loop-again Inv-loop μ-loop
-loop-again c = more (c .before .before .before .before .before .before .before .before .before .args .text .now) (c .before .before .before .before .before .before .loop .inv) (c .before .before .before .before .before .loop-test .taken) (c .before .before .before .wide .ensures) (c .before .before .if2 .left) (c .before .if3 .left) (c .capped .ensures)
+loop-again c =
+    let b5 = c .before .before .before .before .before in
+    let b6 = b5 .before in
+    let b9 = b6 .before .before .before in
+    more (b9 .args .text .now) (b6 .loop .inv) (b5 .loop-test .taken) (c .before .before .before .wide .ensures) (c .before .before .if2 .left) (c .before .if3 .left) (c .capped .ensures)
 
 returns-4 : tie.Need-returns-4 Inv-loop μ-loop
 returns-4 c = ends (c .before .before .before .before .args .text .now) (c .before .loop .inv) (c .loop-test .left)
