@@ -1,4 +1,4 @@
--- `drawing::draw_order` meets its contract.
+-- `cmd_draw::draw_order` meets its contract.
 -- Assumes nothing.
 use mathlib.Core.Path.{sym}
 use native.Mathlib.Omega.{arith}

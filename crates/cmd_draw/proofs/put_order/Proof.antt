@@ -1,4 +1,4 @@
--- `drawing::put_order` meets its contract.
+-- `cmd_draw::put_order` meets its contract.
 -- Assumes nothing.
 use native.Mathlib.Omega.{arith}
 use Rattle.cmd_draw.proofs.Entering.{count-few, order-put}

@@ -1,4 +1,4 @@
--- `lines::put_refusal` meets its contract.
+-- `cmd_lines::put_refusal` meets its contract.
 -- Assumes nothing.
 use native.Mathlib.Omega.{arith}
 use mathlib.Core.List.{_++_}

@@ -1,4 +1,4 @@
--- `orders::read_order` meets its contract.
+-- `cmd_order::read_order` meets its contract.
 -- Assumes nothing.
 use mathlib.Core.Path.{sym, ap, _∙_}
 use Rattle.numbers.specs.Reading.{meaning}

@@ -1,4 +1,4 @@
--- `report::put_lines` meets its contract.
+-- `cmd_settings::put_lines` meets its contract.
 -- Assumes nothing.
 use native.Mathlib.Omega.{arith}
 use mathlib.Core.List.{_++_}

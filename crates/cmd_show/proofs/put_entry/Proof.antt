@@ -1,4 +1,4 @@
--- `showing::put_entry` meets its contract.
+-- `cmd_show::put_entry` meets its contract.
 -- Assumes nothing.
 use native.Mathlib.Omega.{arith}
 use Rattle.answers.proofs.Putting.{put-then}

@@ -1,4 +1,4 @@
--- `showing::put_order` meets its contract.
+-- `cmd_show::put_order` meets its contract.
 -- Assumes nothing.
 use native.Mathlib.Omega.{arith}
 use Rattle.cmd_show.proofs.Showing.{order-line}

@@ -1,4 +1,4 @@
--- `showing::put_order_text` meets its contract.
+-- `cmd_show::put_order_text` meets its contract.
 -- Assumes nothing.
 use mathlib.Core.Path.{refl}
 use Prim.Native.Nat.{_-_}

@@ -1,4 +1,4 @@
--- `showing::put_rest` meets its contract.
+-- `cmd_show::put_rest` meets its contract.
 -- Assumes nothing.
 use mathlib.Core.Path.{sym}
 use native.Mathlib.Omega.{arith}

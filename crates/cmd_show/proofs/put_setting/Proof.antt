@@ -1,4 +1,4 @@
--- `showing::put_setting` meets its contract.
+-- `cmd_show::put_setting` meets its contract.
 -- Assumes nothing.
 use native.Mathlib.Omega.{arith}
 use Rattle.cmd_show.proofs.Showing.{places-line, setting-line, setting-put}

@@ -1,11 +1,11 @@
--- `cmd_console::put_subject` meets its contract.
+-- `cmd_words::put_subject` meets its contract.
 -- Assumes nothing.
 use Rattle.cmd_lines.specs.Text.{text}
 use Rattle.cmd_lines.proofs.Lines.{put-three}
-use Rattle.cmd_console.proofs.Streams.{subject-room}
+use Rattle.cmd_words.proofs.Streams.{subject-room}
 use borrow.Author.Needs.{needs}
-use Rattle.cmd_console.proofs.put_subject.Statement.{statement}
-use Rattle.cmd_console.proofs.put_subject.Tie as tie
+use Rattle.cmd_words.proofs.put_subject.Statement.{statement}
+use Rattle.cmd_words.proofs.put_subject.Tie as tie
 
 put-name-requires : tie.Need-put-name-requires
 put-name-requires c κs = search needs
