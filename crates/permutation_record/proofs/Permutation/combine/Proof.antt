@@ -34,13 +34,8 @@ give-requires-3 c κs = search needs
 
 returns-3 : tie.Need-returns-3
 returns-3 c =
-    let b5 = c .before .before .before .before .before in
-    let b7 = b5 .before .before in
-    let b8 = b7 .before in
-    let b10 = b8 .before .before in
-    let b11 = b10 .before in
-    let w = passed-record (b11 .args .self) (b10 .examine .ensures) (b8 .if1 .left) in
-    let x = passed-record (b11 .args .second) (b7 .examine2 .ensures) (b5 .if2 .left) in
+    let w = passed-record (c .before .before .before .before .before .before .before .before .before .before .before .args .self) (c .before .before .before .before .before .before .before .before .before .before .examine .ensures) (c .before .before .before .before .before .before .before .before .if1 .left) in
+    let x = passed-record (c .before .before .before .before .before .before .before .before .before .before .before .args .second) (c .before .before .before .before .before .before .before .examine2 .ensures) (c .before .before .before .before .before .if2 .left) in
     c .give3 .ensures ∙ combine-unlike _ _ w x (c .before .before .if3 .taken) (c .before .refuse .ensures)
 
 accept-requires : tie.Need-accept-requires
@@ -48,12 +43,9 @@ accept-requires c κs = search needs
 
 combined-record-requires : tie.Need-combined-record-requires
 combined-record-requires c κs =
-    let b7 = c .before .before .before .before .before .before .before in
-    let b9 = b7 .before .before in
-    let b10 = b9 .before in
-    let p = b10 .args .self in
+    let p = c .before .before .before .before .before .before .before .before .before .before .args .self in
     let s : length (p .entries) ≡ 1024 = search needs in
-    let S = sound p s (passed-record p (b9 .examine .ensures) (b7 .if1 .left)) in
+    let S = sound p s (passed-record p (c .before .before .before .before .before .before .before .before .before .examine .ensures) (c .before .before .before .before .before .before .before .if1 .left)) in
     (S .small, c .before .if3 .left, S .permutation)
 
 give-requires-4 : tie.Need-give-requires-4
@@ -61,13 +53,8 @@ give-requires-4 c κs = search needs
 
 returns-4 : tie.Need-returns-4
 returns-4 c =
-    let b6 = c .before .before .before .before .before .before in
-    let b8 = b6 .before .before in
-    let b9 = b8 .before in
-    let b11 = b9 .before .before in
-    let b12 = b11 .before in
-    let w = passed-record (b12 .args .self) (b11 .examine .ensures) (b9 .if1 .left) in
-    let x = passed-record (b12 .args .second) (b8 .examine2 .ensures) (b6 .if2 .left) in
+    let w = passed-record (c .before .before .before .before .before .before .before .before .before .before .before .before .args .self) (c .before .before .before .before .before .before .before .before .before .before .before .examine .ensures) (c .before .before .before .before .before .before .before .before .before .if1 .left) in
+    let x = passed-record (c .before .before .before .before .before .before .before .before .before .before .before .before .args .second) (c .before .before .before .before .before .before .before .before .examine2 .ensures) (c .before .before .before .before .before .before .if2 .left) in
     c .give4 .ensures ∙ combine-done _ _ w x (c .before .before .before .if3 .left) (c .before .before .accept .ensures) (c .before .combined-record .ensures)
 
 pub combine-spec : {M : Type 1} → statement M
