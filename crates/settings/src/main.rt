@@ -1,5 +1,5 @@
 // The program `settings`: an order on standard input, its setting on standard output (01, 'Month cases').
-use cmd_console::Program;
+use cmd_words::Program;
 
 fn settings(input: &[u8]) {
     let mut text = [0u8; 9252];

@@ -1,5 +1,5 @@
 // `sheet`: the sheet of the order on standard input (01: set, write sheet), which is read as `settings` reads it.
-use cmd_console::Program;
+use cmd_words::Program;
 
 fn sheet(input: &[u8]) {
     let mut made = [0u8; sheets::SHEET_ROOM];

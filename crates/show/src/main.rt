@@ -1,6 +1,6 @@
 // `show SHEET`: the places, the setting and the order of the sheet in the file SHEET, and a picture of a small network.
 // A byte more than the longest sheet, of 1,320, is read, so that a surplus shows.
-use cmd_console::Program;
+use cmd_words::Program;
 
 fn show(sheet: &[u8]) {
     let mut text = [0u8; 16384];

@@ -25,11 +25,15 @@ same-length c = search needs
 
 returns : tie.Need-returns
 returns c =
-    let a = c .before .before .before .before .before .before .before .before .before .before .args in
+    let b4 = c .before .before .before .before in
+    let b5 = b4 .before in
+    let b6 = b5 .before in
+    let b10 = b6 .before .before .before .before in
+    let a = b10 .args in
     reply-crosses (a .first .now) (c .before .before .give .ensures)
-    (c .before .before .before .before .combine .ensures
-    ∙ ap (combineCall (c .before .before .before .before .before .before .record-of .result)) (c .before .before .before .before .before .record-of2 .ensures)
-    ∙ ap (λ (p : Permutation). combineCall p (recordIn (a .second .now))) (c .before .before .before .before .before .before .record-of .ensures))
+    (b4 .combine .ensures
+    ∙ ap (combineCall (b6 .record-of .result)) (b5 .record-of2 .ensures)
+    ∙ ap (λ (p : Permutation). combineCall p (recordIn (a .second .now))) (b6 .record-of .ensures))
 
 pub lomuveran-permutation-combine-spec : {M : Type 1} → statement M
 lomuveran-permutation-combine-spec =

@@ -35,7 +35,9 @@ same-length : tie.Need-same-length
 same-length c = search needs
 
 same-length-2 : tie.Need-same-length-2
-same-length-2 c = c .before .before .before .before .before .before .before .before .before .before .before .before .before .before .before .before .before .before .before .scatter .kept .1 .1 .1 .0
+same-length-2 c =
+    let b19 = c .before .before .before .before .before .before .before .before .before .before .before .before .before .before .before .before .before .before .before in
+    b19 .scatter .kept .1 .1 .1 .0
 
 returns : tie.Need-returns
 returns c = search needs

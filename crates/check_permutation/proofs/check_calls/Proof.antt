@@ -34,7 +34,9 @@ accepted-requires-3 : tie.Need-accepted-requires-3
 accepted-requires-3 c κs = search needs
 
 check-group-requires : tie.Need-check-group-requires
-check-group-requires c κs = c .before .before .before .before .before .before .before .before .before .before .before .before .before .pre
+check-group-requires c κs =
+    let b13 = c .before .before .before .before .before .before .before .before .before .before .before .before .before in
+    b13 .pre
 
 returns : tie.Need-returns
 returns c = search needs

@@ -54,10 +54,14 @@ check-list-requires : tie.Need-check-list-requires
 check-list-requires c κs = search needs
 
 front-requires-2 : tie.Need-front-requires-2
-front-requires-2 c κs = c .before .before .before .before .before .before .before .before .before .before .before .before .before .before .before .before .before .before .before .before .before .pre
+front-requires-2 c κs =
+    let b21 = c .before .before .before .before .before .before .before .before .before .before .before .before .before .before .before .before .before .before .before .before .before in
+    b21 .pre
 
 check-calls-requires : tie.Need-check-calls-requires
-check-calls-requires c κs = c .before .before .before .before .before .before .before .before .before .before .before .before .before .before .before .before .before .before .before .before .before .before .pre
+check-calls-requires c κs =
+    let b22 = c .before .before .before .before .before .before .before .before .before .before .before .before .before .before .before .before .before .before .before .before .before .before in
+    b22 .pre
 
 returns : tie.Need-returns
 returns c = search needs

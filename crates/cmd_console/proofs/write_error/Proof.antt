@@ -1,4 +1,4 @@
--- `console::write_error` meets its contract.
+-- `cmd_console::write_error` meets its contract.
 -- Assumes nothing.
 use mathlib.Core.Path.{sym}
 use lib.Seq.{length-take-le}

@@ -1,4 +1,4 @@
--- `drawing::bytes_for` meets its contract.
+-- `cmd_draw::bytes_for` meets its contract.
 -- Assumes nothing.
 use Rattle.cmd_draw.proofs.Drawn.{wanted, wanted-none}
 use borrow.Author.Needs.{needs}

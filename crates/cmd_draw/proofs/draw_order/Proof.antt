@@ -1,4 +1,4 @@
--- `drawing::draw_order` meets its contract.
+-- `cmd_draw::draw_order` meets its contract.
 -- Assumes nothing.
 use mathlib.Core.Path.{sym}
 use native.Mathlib.Omega.{arith}
@@ -43,16 +43,29 @@ array-share-prefix-order : tie.Need-array-share-prefix-order
 array-share-prefix-order c = search needs
 
 slice-aggregate-put-order : tie.Need-slice-aggregate-put-order
-slice-aggregate-put-order c = sym (length-take-le _ _ (omega (arith, c .before .before .before .before .before .before .before .before .before .if1 .left, c .before .before .shuffle .kept)))
+slice-aggregate-put-order c =
+    let b9 = c .before .before .before .before .before .before .before .before .before in
+    sym (length-take-le _ _ (omega (arith, b9 .if1 .left, c .before .before .shuffle .kept)))
 
 put-order-requires : tie.Need-put-order-requires
-put-order-requires c κs = (omega (arith, length-take (c .before .before .before .before .before .before .before .before .before .before .before .before .args .n) (c .before .before .before .shuffle .last .1 .1 .0), c .before .before .before .before .before .before .before .before .before .before .if1 .left), omega arith, entries-few (c .before .before .before .before .before .before .before .before .before .before .before .before .args .n) (c .before .before .before .before .before .before .before .before .before .before .before .before .args .bytes .now) (c .before .before .before .before .before .before .before .before .before .before .if1 .left) (c .before .before .before .before .before .before .before .before .before .if2 .left) (replicate 1024 0) (gathered (c .before .before .before .before .before .before .before .before .before .before .before .before .args .n) (c .before .before .before .before .before .before .before .before .before .before .before .before .args .bytes .now) (c .before .before .before .before .before .before .before .before .before .before .if1 .left) (c .before .before .before .before .before .before .before .before .before .if2 .left) (replicate 1024 0) (c .before .before .before .before .before .before .before .gather .ensures)) (omega (arith, c .before .before .before .before .before .before .before .before .before .before .if1 .left)) (c .before .before .before .shuffle .ensures))
+put-order-requires c κs =
+    let b7 = c .before .before .before .before .before .before .before in
+    let b9 = b7 .before .before in
+    let b10 = b9 .before in
+    let b12 = b10 .before .before in
+    (omega (arith, length-take (b12 .args .n) (c .before .before .before .shuffle .last .1 .1 .0), b10 .if1 .left), omega arith, entries-few (b12 .args .n) (b12 .args .bytes .now) (b10 .if1 .left) (b9 .if2 .left) (replicate 1024 0) (gathered (b12 .args .n) (b12 .args .bytes .now) (b10 .if1 .left) (b9 .if2 .left) (replicate 1024 0) (b7 .gather .ensures)) (omega (arith, b10 .if1 .left)) (c .before .before .before .shuffle .ensures))
 
 accept-requires : tie.Need-accept-requires
 accept-requires c κs = search needs
 
 returns-3 : tie.Need-returns-3
-returns-3 c = draw-done _ _ _ (c .before .before .before .before .before .before .before .before .before .before .before .before .if1 .left) (c .before .before .before .before .before .before .before .before .before .before .before .if2 .left) (drawn (c .before .before .before .before .before .before .before .before .before .before .before .before .before .before .args .n) (c .before .before .before .before .before .before .before .before .before .before .before .before .before .before .args .bytes .now) (c .before .before .before .before .before .before .before .before .before .before .before .before .if1 .left) (c .before .before .before .before .before .before .before .before .before .before .before .if2 .left) (replicate 1024 0) (gathered (c .before .before .before .before .before .before .before .before .before .before .before .before .before .before .args .n) (c .before .before .before .before .before .before .before .before .before .before .before .before .before .before .args .bytes .now) (c .before .before .before .before .before .before .before .before .before .before .before .before .if1 .left) (c .before .before .before .before .before .before .before .before .before .before .before .if2 .left) (replicate 1024 0) (c .before .before .before .before .before .before .before .before .before .gather .ensures)) (omega (arith, c .before .before .before .before .before .before .before .before .before .before .before .before .if1 .left)) (c .before .before .before .before .before .shuffle .ensures)) (c .before .put-order .ensures) (c .accept .ensures)
+returns-3 c =
+    let b5 = c .before .before .before .before .before in
+    let b9 = b5 .before .before .before .before in
+    let b11 = b9 .before .before in
+    let b12 = b11 .before in
+    let b14 = b12 .before .before in
+    draw-done _ _ _ (b12 .if1 .left) (b11 .if2 .left) (drawn (b14 .args .n) (b14 .args .bytes .now) (b12 .if1 .left) (b11 .if2 .left) (replicate 1024 0) (gathered (b14 .args .n) (b14 .args .bytes .now) (b12 .if1 .left) (b11 .if2 .left) (replicate 1024 0) (b9 .gather .ensures)) (omega (arith, b12 .if1 .left)) (b5 .shuffle .ensures)) (c .before .put-order .ensures) (c .accept .ensures)
 
 pub draw-order-spec : {M : Type 1} → statement M
 draw-order-spec =

@@ -1,4 +1,4 @@
--- `drawing::gather` meets its contract.
+-- `cmd_draw::gather` meets its contract.
 -- Assumes nothing.
 use Prim.Native.Nat.{_-_}
 use native.Mathlib.Omega.{arith}

@@ -1,4 +1,4 @@
--- `drawing::put_order` meets its contract.
+-- `cmd_draw::put_order` meets its contract.
 -- Assumes nothing.
 use native.Mathlib.Omega.{arith}
 use Rattle.cmd_draw.proofs.Entering.{count-few, order-put}
@@ -16,7 +16,10 @@ same-length : tie.Need-same-length
 same-length c = search needs
 
 returns : tie.Need-returns
-returns c = let s = c .before .before .before .before .before .before .before .before .before .before in order-put (s .args .order .now) (s .pre .1) (c .before .before .before .before .before .before .put-number .ensures) (c .before .before .put-row .ensures)
+returns c =
+    let b6 = c .before .before .before .before .before .before in
+    let b10 = b6 .before .before .before .before in
+    let s = b10 in order-put (s .args .order .now) (s .pre .1) (b6 .put-number .ensures) (c .before .before .put-row .ensures)
 
 pub put-order-spec : {M : Type 1} → statement M
 put-order-spec = tie.close (tie.spec put-number-requires put-row-requires same-length returns)

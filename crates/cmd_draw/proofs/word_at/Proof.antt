@@ -1,4 +1,4 @@
--- `drawing::word_at` meets its contract.
+-- `cmd_draw::word_at` meets its contract.
 -- Assumes nothing.
 use borrow.Author.Needs.{needs}
 use Rattle.cmd_draw.proofs.word_at.Statement.{statement}

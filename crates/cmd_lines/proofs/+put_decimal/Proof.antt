@@ -1,4 +1,4 @@
--- `lines::put_decimal` meets its contract.
+-- `cmd_lines::put_decimal` meets its contract.
 -- Assumes nothing.
 use borrow.Author.Needs.{needs}
 use native.Mathlib.Omega.{arith}

@@ -1,4 +1,4 @@
--- `lines::bit_character` meets its contract.
+-- `cmd_lines::bit_character` meets its contract.
 -- Assumes nothing.
 use Rattle.cmd_lines.proofs.Lines.{bit-one, bit-other}
 use Rattle.cmd_lines.proofs.bit_character.Statement.{statement}

@@ -1,4 +1,4 @@
--- `lines::put_bits` meets its contract.
+-- `cmd_lines::put_bits` meets its contract.
 -- Assumes nothing.
 use mathlib.Core.Path.{sym, _∙_}
 use native.Mathlib.Omega.{arith}

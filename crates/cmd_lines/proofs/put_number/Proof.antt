@@ -1,4 +1,4 @@
--- `lines::put_number` meets its contract.
+-- `cmd_lines::put_number` meets its contract.
 -- Assumes nothing.
 use mathlib.Core.List.{_++_}
 use Rattle.cmd_lines.specs.Text.{text, decimal}
@@ -17,13 +17,21 @@ slice-aggregate-put-text : tie.Need-slice-aggregate-put-text
 slice-aggregate-put-text c = search needs
 
 put-text-requires-2 : tie.Need-put-text-requires-2
-put-text-requires-2 c κs = room-third (decimal (c .before .before .before .before .before .before .before .before .before .before .before .before .args .v)) (text "\n") (c .before .before .before .before .before .before .before .before .put-text .ensures) (c .before .before .before .before .before .before .before .before .before .before .before .before .pre) (c .before .before .before .before .put-decimal .ensures)
+put-text-requires-2 c κs =
+    let b4 = c .before .before .before .before in
+    let b8 = b4 .before .before .before .before in
+    let b12 = b8 .before .before .before .before in
+    room-third (decimal (b12 .args .v)) (text "\n") (b8 .put-text .ensures) (b12 .pre) (b4 .put-decimal .ensures)
 
 same-length : tie.Need-same-length
 same-length c = search needs
 
 returns : tie.Need-returns
-returns c = put-three _ _ (c .before .before .before .before .before .before .before .before .before .before .before .put-text .ensures) (c .before .before .before .before .before .before .before .before .before .before .before .before .before .before .before .pre) (c .before .before .before .before .before .before .before .put-decimal .ensures) (c .before .before .put-text2 .ensures)
+returns c =
+    let b7 = c .before .before .before .before .before .before .before in
+    let b11 = b7 .before .before .before .before in
+    let b15 = b11 .before .before .before .before in
+    put-three _ _ (b11 .put-text .ensures) (b15 .pre) (b7 .put-decimal .ensures) (c .before .before .put-text2 .ensures)
 
 pub put-number-spec : {M : Type 1} → statement M
 put-number-spec =

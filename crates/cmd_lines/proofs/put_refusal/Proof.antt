@@ -1,4 +1,4 @@
--- `lines::put_refusal` meets its contract.
+-- `cmd_lines::put_refusal` meets its contract.
 -- Assumes nothing.
 use native.Mathlib.Omega.{arith}
 use mathlib.Core.List.{_++_}
@@ -24,14 +24,22 @@ slice-aggregate-put-number c = search needs
 
 put-number-requires : tie.Need-put-number-requires
 unfolding refusalLine
-put-number-requires c κs = room-third (decimal (c .before .before .before .before .before .before .before .before .before .before .before .before .args .refused .number)) (line " at " (decimal (c .before .before .before .before .before .before .before .before .before .before .before .before .args .refused .place))) (c .before .before .before .before .before .before .before .before .put-text .ensures) (omega (arith, c .before .before .before .before .before .before .before .before .before .before .before .before .pre)) (c .before .before .before .before .put-decimal .ensures)
+put-number-requires c κs =
+    let b4 = c .before .before .before .before in
+    let b8 = b4 .before .before .before .before in
+    let b12 = b8 .before .before .before .before in
+    room-third (decimal (b12 .args .refused .number)) (line " at " (decimal (b12 .args .refused .place))) (b8 .put-text .ensures) (omega (arith, b12 .pre)) (b4 .put-decimal .ensures)
 
 same-length : tie.Need-same-length
 same-length c = search needs
 
 returns : tie.Need-returns
 unfolding refusalLine
-returns c = put-three _ _ (c .before .before .before .before .before .before .before .before .before .before .before .put-text .ensures) (omega (arith, c .before .before .before .before .before .before .before .before .before .before .before .before .before .before .before .pre)) (c .before .before .before .before .before .before .before .put-decimal .ensures) (c .before .before .put-number .ensures)
+returns c =
+    let b7 = c .before .before .before .before .before .before .before in
+    let b11 = b7 .before .before .before .before in
+    let b15 = b11 .before .before .before .before in
+    put-three _ _ (b11 .put-text .ensures) (omega (arith, b15 .pre)) (b7 .put-decimal .ensures) (c .before .before .put-number .ensures)
 
 pub put-refusal-spec : {M : Type 1} → statement M
 put-refusal-spec =

@@ -1,4 +1,4 @@
--- `lines::put_setting` meets its contract.
+-- `cmd_lines::put_setting` meets its contract.
 -- Assumes nothing.
 use mathlib.Core.List.{_++_}
 use Rattle.cmd_lines.specs.Text.{text, bitsText}
@@ -20,13 +20,21 @@ slice-aggregate-put-text-2 : tie.Need-slice-aggregate-put-text-2
 slice-aggregate-put-text-2 c = search needs
 
 put-text-requires-2 : tie.Need-put-text-requires-2
-put-text-requires-2 c κs = room-third (bitsText (c .before .before .before .before .before .before .before .before .before .before .before .before .before .args .bits .now)) (text "\n") (c .before .before .before .before .before .before .before .before .put-text .ensures) (c .before .before .before .before .before .before .before .before .before .before .before .before .before .pre) (c .before .before .before .before .put-bits .ensures)
+put-text-requires-2 c κs =
+    let b4 = c .before .before .before .before in
+    let b8 = b4 .before .before .before .before in
+    let b13 = b8 .before .before .before .before .before in
+    room-third (bitsText (b13 .args .bits .now)) (text "\n") (b8 .put-text .ensures) (b13 .pre) (b4 .put-bits .ensures)
 
 same-length : tie.Need-same-length
 same-length c = search needs
 
 returns : tie.Need-returns
-returns c = put-three _ _ (c .before .before .before .before .before .before .before .before .before .before .before .put-text .ensures) (c .before .before .before .before .before .before .before .before .before .before .before .before .before .before .before .before .pre) (c .before .before .before .before .before .before .before .put-bits .ensures) (c .before .before .put-text2 .ensures)
+returns c =
+    let b7 = c .before .before .before .before .before .before .before in
+    let b11 = b7 .before .before .before .before in
+    let b16 = b11 .before .before .before .before .before in
+    put-three _ _ (b11 .put-text .ensures) (b16 .pre) (b7 .put-bits .ensures) (c .before .before .put-text2 .ensures)
 
 pub put-setting-spec : {M : Type 1} → statement M
 put-setting-spec =

@@ -1,4 +1,4 @@
--- `lines::put_text` meets its contract.
+-- `cmd_lines::put_text` meets its contract.
 -- Assumes nothing.
 use mathlib.Core.Path.{refl}
 use Prim.Native.Nat.{_-_}

@@ -1,4 +1,4 @@
--- `orders::read_order` meets its contract.
+-- `cmd_order::read_order` meets its contract.
 -- Assumes nothing.
 use mathlib.Core.Path.{sym, ap, _∙_}
 use Rattle.numbers.specs.Reading.{meaning}
@@ -36,19 +36,34 @@ same-length : tie.Need-same-length
 same-length c = search needs
 
 returns-3 : tie.Need-returns-3
-returns-3 c = row-stop _ (reads _ _ _ _ (ap meaning (sym (c .before .before .before .before .before .before .before .before .count .given .1)) ∙ c .before .before .before .before .before .before .before .before .before .before .read-number .ensures)) (c .before .before .before .before .before .before .if1 .left) (c .before .before .before .before .read-row .ensures) (c .enum-told2 .given .1)
+returns-3 c =
+    let b4 = c .before .before .before .before in
+    let b6 = b4 .before .before in
+    let b8 = b6 .before .before in
+    let b10 = b8 .before .before in
+    row-stop _ (reads _ _ _ _ (ap meaning (sym (b8 .count .given .1)) ∙ b10 .read-number .ensures)) (b6 .if1 .left) (b4 .read-row .ensures) (c .enum-told2 .given .1)
 
 same-length-2 : tie.Need-same-length-2
 same-length-2 c = search needs
 
 returns-4 : tie.Need-returns-4
-returns-4 c = surplus _ (reads _ _ _ _ (ap meaning (sym (c .before .before .before .before .before .before .before .before .before .before .count .given .1)) ∙ c .before .before .before .before .before .before .before .before .before .before .before .before .read-number .ensures)) (c .before .before .before .before .before .before .before .before .if1 .left) (c .before .before .before .before .before .before .read-row .ensures) (c .before .before .entries .given .1) (c .if2 .taken)
+returns-4 c =
+    let b6 = c .before .before .before .before .before .before in
+    let b8 = b6 .before .before in
+    let b10 = b8 .before .before in
+    let b12 = b10 .before .before in
+    surplus _ (reads _ _ _ _ (ap meaning (sym (b10 .count .given .1)) ∙ b12 .read-number .ensures)) (b8 .if1 .left) (b6 .read-row .ensures) (c .before .before .entries .given .1) (c .if2 .taken)
 
 same-length-3 : tie.Need-same-length-3
 same-length-3 c = search needs
 
 returns-5 : tie.Need-returns-5
-returns-5 c = order-done _ (reads _ _ _ _ (ap meaning (sym (c .before .before .before .before .before .before .before .before .before .before .count .given .1)) ∙ c .before .before .before .before .before .before .before .before .before .before .before .before .read-number .ensures)) (c .before .before .before .before .before .before .before .before .if1 .left) (c .before .before .before .before .before .before .read-row .ensures) (c .before .before .entries .given .1) (c .if2 .left)
+returns-5 c =
+    let b6 = c .before .before .before .before .before .before in
+    let b8 = b6 .before .before in
+    let b10 = b8 .before .before in
+    let b12 = b10 .before .before in
+    order-done _ (reads _ _ _ _ (ap meaning (sym (b10 .count .given .1)) ∙ b12 .read-number .ensures)) (b8 .if1 .left) (b6 .read-row .ensures) (c .before .before .entries .given .1) (c .if2 .left)
 
 pub read-order-spec : {M : Type 1} → statement M
 read-order-spec =

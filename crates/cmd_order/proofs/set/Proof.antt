@@ -53,10 +53,14 @@ same-length c = search needs
 
 returns-2 : tie.Need-returns-2
 returns-2 c =
-    let a = c .before .before .before .before .before .before .before .before .before .before .args in
-    let bad = sym (c .before .before .before .before .before .before .before .first-bad-entry .ensures) ∙ c .before .before .before .before .before .before .if1 .left in
+    let b5 = c .before .before .before .before .before in
+    let b6 = b5 .before in
+    let b7 = b6 .before in
+    let b10 = b7 .before .before .before in
+    let a = b10 .args in
+    let bad = sym (b7 .first-bad-entry .ensures) ∙ b6 .if1 .left in
     let made = c .before .before .before .setting-of-order .ensures in
-    set-accepted (a .order .now) (a .bits .now) bad (c .before .before .before .before .before .switches .ensures .0) (made .0) (made .1) (c .accept .ensures)
+    set-accepted (a .order .now) (a .bits .now) bad (b5 .switches .ensures .0) (made .0) (made .1) (c .accept .ensures)
 
 pub set-spec : {M : Type 1} → statement M
 set-spec =

@@ -1,4 +1,4 @@
--- `picture::mark_at` meets its contract.
+-- `cmd_picture::mark_at` meets its contract.
 -- Assumes nothing.
 use mathlib.Core.Path.{_∙_}
 use Rattle.cmd_picture.proofs.Marks.{mark-lower, mark-upper, mark-before, mark-behind, mark-between}

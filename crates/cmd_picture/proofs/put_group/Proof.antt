@@ -20,13 +20,21 @@ slice-aggregate-put-text : tie.Need-slice-aggregate-put-text
 slice-aggregate-put-text c = search needs
 
 put-text-requires-2 : tie.Need-put-text-requires-2
-put-text-requires-2 c κs = let cs = c .before .before .before .before .before .before .before .before .before .args .columns .now in omega (arith, c .before .before .before .before .before .before .before .before .before .pre, c .before .before .before .before .put-text .ensures .place, c .before .before .before .before .put-text .kept, ap length (group-some cs (c .before .before .before .before .before .before .if1 .left)), length-append cs (text " "))
+put-text-requires-2 c κs =
+    let b4 = c .before .before .before .before in
+    let b6 = b4 .before .before in
+    let b9 = b6 .before .before .before in
+    let cs = b9 .args .columns .now in omega (arith, b9 .pre, b4 .put-text .ensures .place, b4 .put-text .kept, ap length (group-some cs (b6 .if1 .left)), length-append cs (text " "))
 
 same-length : tie.Need-same-length
 same-length c = search needs
 
 returns-2 : tie.Need-returns-2
-returns-2 c = let cs = c .before .before .before .before .before .before .before .before .before .before .before .before .args .columns .now in rw (group-some cs (c .before .before .before .before .before .before .before .before .before .if1 .left)) (put-then (omega (arith, c .before .before .before .before .before .before .before .before .before .before .before .before .pre, ap length (group-some cs (c .before .before .before .before .before .before .before .before .before .if1 .left)), length-append cs (text " "))) (c .before .before .before .before .before .before .before .put-text .ensures) (c .before .before .put-text2 .ensures))
+returns-2 c =
+    let b7 = c .before .before .before .before .before .before .before in
+    let b9 = b7 .before .before in
+    let b12 = b9 .before .before .before in
+    let cs = b12 .args .columns .now in rw (group-some cs (b9 .if1 .left)) (put-then (omega (arith, b12 .pre, ap length (group-some cs (b9 .if1 .left)), length-append cs (text " "))) (b7 .put-text .ensures) (c .before .before .put-text2 .ensures))
 
 pub put-group-spec : {M : Type 1} → statement M
 put-group-spec =

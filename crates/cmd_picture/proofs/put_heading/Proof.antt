@@ -29,13 +29,21 @@ slice-aggregate-put-line : tie.Need-slice-aggregate-put-line
 slice-aggregate-put-line c = sym (length-take-le _ _ (put-within (c .before .before .before .before .before .before .before .before .put-bits .ensures)))
 
 put-line-requires : tie.Need-put-line-requires
-put-line-requires c κs = let s = c .before .before .before .before .before .before .before .before .before .before .before .before in let e = put-front (c .before .before .before .before .before .before .before .before .put-bits .ensures) in (s .pre .0, s .pre .1, ap length e ∙ bits-each (s .args .n) (s .args .bits .now) (s .pre .0) (s .pre .2), rw e (omega (arith, s .pre .3, c .before .before .before .before .put-text .ensures .place, c .before .before .before .before .put-text .kept)))
+put-line-requires c κs =
+    let b4 = c .before .before .before .before in
+    let b8 = b4 .before .before .before .before in
+    let b12 = b8 .before .before .before .before in
+    let s = b12 in let e = put-front (b8 .put-bits .ensures) in (s .pre .0, s .pre .1, ap length e ∙ bits-each (s .args .n) (s .args .bits .now) (s .pre .0) (s .pre .2), rw e (omega (arith, s .pre .3, b4 .put-text .ensures .place, b4 .put-text .kept)))
 
 same-length : tie.Need-same-length
 same-length c = search needs
 
 returns : tie.Need-returns
-returns c = let s = c .before .before .before .before .before .before .before .before .before .before .before .before .before .before .before in put-then (omega (arith, s .pre .3)) (c .before .before .before .before .before .before .before .put-text .ensures) (rw (put-front (c .before .before .before .before .before .before .before .before .before .before .before .put-bits .ensures)) at (c .before .before .put-line .ensures))
+returns c =
+    let b7 = c .before .before .before .before .before .before .before in
+    let b11 = b7 .before .before .before .before in
+    let b15 = b11 .before .before .before .before in
+    let s = b15 in put-then (omega (arith, s .pre .3)) (b7 .put-text .ensures) (rw (put-front (b11 .put-bits .ensures)) at (c .before .before .put-line .ensures))
 
 pub put-heading-spec : {M : Type 1} → statement M
 put-heading-spec =

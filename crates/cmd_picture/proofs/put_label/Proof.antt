@@ -1,4 +1,4 @@
--- `picture::put_label` meets its contract.
+-- `cmd_picture::put_label` meets its contract.
 -- Assumes nothing.
 use borrow.Author.Needs.{needs}
 use Rattle.cmd_picture.proofs.put_label.Statement.{statement}

@@ -39,13 +39,23 @@ slice-aggregate-put-text : tie.Need-slice-aggregate-put-text
 slice-aggregate-put-text c = search needs
 
 put-text-requires : tie.Need-put-text-requires
-put-text-requires c κs = let s = c .before .before .before .before .before .before .before .before .before .before in let n = s .args .n in let cs = s .args .columns .now in let e = groups-are n cs (c .before .before .before .before .before .before .before .switches .ensures .0) (c .before .before .before .before .before .before .switches2 .ensures .0) in omega (arith, s .pre .3, c .before .before .before .before .put-groups .ensures .place, c .before .before .before .before .put-groups .kept, ap length e, length-append (grouped n cs) (text "\n"))
+put-text-requires c κs =
+    let b4 = c .before .before .before .before in
+    let b6 = b4 .before .before in
+    let b7 = b6 .before in
+    let b10 = b7 .before .before .before in
+    let s = b10 in let n = s .args .n in let cs = s .args .columns .now in let e = groups-are n cs (b7 .switches .ensures .0) (b6 .switches2 .ensures .0) in omega (arith, s .pre .3, b4 .put-groups .ensures .place, b4 .put-groups .kept, ap length e, length-append (grouped n cs) (text "\n"))
 
 same-length : tie.Need-same-length
 same-length c = search needs
 
 returns : tie.Need-returns
-returns c = let s = c .before .before .before .before .before .before .before .before .before .before .before .before .before in let n = s .args .n in let cs = s .args .columns .now in let e = groups-are n cs (c .before .before .before .before .before .before .before .before .before .before .switches .ensures .0) (c .before .before .before .before .before .before .before .before .before .switches2 .ensures .0) in put-then (omega (arith, s .pre .3, length-append (grouped n cs) (text "\n"))) (rw e at (c .before .before .before .before .before .before .before .put-groups .ensures)) (c .before .before .put-text .ensures)
+returns c =
+    let b7 = c .before .before .before .before .before .before .before in
+    let b9 = b7 .before .before in
+    let b10 = b9 .before in
+    let b13 = b10 .before .before .before in
+    let s = b13 in let n = s .args .n in let cs = s .args .columns .now in let e = groups-are n cs (b10 .switches .ensures .0) (b9 .switches2 .ensures .0) in put-then (omega (arith, s .pre .3, length-append (grouped n cs) (text "\n"))) (rw e at (b7 .put-groups .ensures)) (c .before .before .put-text .ensures)
 
 pub put-line-spec : {M : Type 1} → statement M
 put-line-spec =

@@ -28,13 +28,21 @@ slice-aggregate-put-line : tie.Need-slice-aggregate-put-line
 slice-aggregate-put-line c = sym (length-take-le _ _ (put-within (c .before .before .before .before .before .before .before .put-columns .ensures)))
 
 put-line-requires : tie.Need-put-line-requires
-put-line-requires c κs = let s = c .before .before .before .before .before .before .before .before .before .before .before .before in let e = put-front (c .before .before .before .before .before .before .before .put-columns .ensures) in (s .pre .0, s .pre .1, ap length e ∙ length-tabulate (markIn (s .args .log .now) (s .args .bits .now) (s .args .place)) (length (s .args .bits .now)) ∙ s .pre .3, rw e (omega (arith, s .pre .5, c .before .before .before .before .put-label .ensures .place, c .before .before .before .before .put-label .kept)))
+put-line-requires c κs =
+    let b4 = c .before .before .before .before in
+    let b7 = b4 .before .before .before in
+    let b12 = b7 .before .before .before .before .before in
+    let s = b12 in let e = put-front (b7 .put-columns .ensures) in (s .pre .0, s .pre .1, ap length e ∙ length-tabulate (markIn (s .args .log .now) (s .args .bits .now) (s .args .place)) (length (s .args .bits .now)) ∙ s .pre .3, rw e (omega (arith, s .pre .5, b4 .put-label .ensures .place, b4 .put-label .kept)))
 
 same-length : tie.Need-same-length
 same-length c = search needs
 
 returns : tie.Need-returns
-returns c = let s = c .before .before .before .before .before .before .before .before .before .before .before .before .before .before .before in put-then (omega (arith, s .pre .5)) (c .before .before .before .before .before .before .before .put-label .ensures) (rw (put-front (c .before .before .before .before .before .before .before .before .before .before .put-columns .ensures)) at (c .before .before .put-line .ensures))
+returns c =
+    let b7 = c .before .before .before .before .before .before .before in
+    let b10 = b7 .before .before .before in
+    let b15 = b10 .before .before .before .before .before in
+    let s = b15 in put-then (omega (arith, s .pre .5)) (b7 .put-label .ensures) (rw (put-front (b10 .put-columns .ensures)) at (c .before .before .put-line .ensures))
 
 pub put-row-spec : {M : Type 1} → statement M
 put-row-spec =

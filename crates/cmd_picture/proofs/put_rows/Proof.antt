@@ -26,7 +26,11 @@ loop-less : tie.Need-loop-less Inv-loop μ-loop
 loop-less c = search needs
 
 loop-again : tie.Need-loop-again Inv-loop μ-loop
-loop-again c = let s = c .before .before .before .before .before .before .before .before .before in rowing-more _ _ _ _ _ _ (s .pre .4) (c .before .before .before .before .before .loop .inv) (c .before .before .before .before .loop-test .taken) (search needs) (c .before .before .put-row .ensures)
+loop-again c =
+    let b4 = c .before .before .before .before in
+    let b5 = b4 .before in
+    let b9 = b5 .before .before .before .before in
+    let s = b9 in rowing-more _ _ _ _ _ _ (s .pre .4) (b5 .loop .inv) (b4 .loop-test .taken) (search needs) (c .before .before .put-row .ensures)
 
 same-length : tie.Need-same-length Inv-loop μ-loop
 same-length c = c .before .loop .inv .same

@@ -1,4 +1,4 @@
--- `picture::tens` meets its contract.
+-- `cmd_picture::tens` meets its contract.
 -- Assumes nothing.
 use Rattle.cmd_picture.proofs.Marks.{one-digit, two-digits}
 use borrow.Author.Needs.{needs}

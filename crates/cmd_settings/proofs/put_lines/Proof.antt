@@ -1,4 +1,4 @@
--- `report::put_lines` meets its contract.
+-- `cmd_settings::put_lines` meets its contract.
 -- Assumes nothing.
 use native.Mathlib.Omega.{arith}
 use mathlib.Core.List.{_++_}
@@ -25,14 +25,22 @@ slice-aggregate-put-number-2 c = search needs
 
 put-number-requires-2 : tie.Need-put-number-requires-2
 unfolding settingLines
-put-number-requires-2 c κs = room-third (line "setting " (bitsText (c .before .before .before .before .before .before .before .before .before .before .before .before .before .args .bits .now))) (line "entries " (decimal (c .before .before .before .before .before .before .before .before .before .before .before .before .before .args .entries))) (c .before .before .before .before .before .before .before .before .put-number .ensures) (omega (arith, c .before .before .before .before .before .before .before .before .before .before .before .before .before .pre)) (c .before .before .before .before .put-setting .ensures)
+put-number-requires-2 c κs =
+    let b4 = c .before .before .before .before in
+    let b8 = b4 .before .before .before .before in
+    let b13 = b8 .before .before .before .before .before in
+    room-third (line "setting " (bitsText (b13 .args .bits .now))) (line "entries " (decimal (b13 .args .entries))) (b8 .put-number .ensures) (omega (arith, b13 .pre)) (b4 .put-setting .ensures)
 
 same-length : tie.Need-same-length
 same-length c = search needs
 
 returns : tie.Need-returns
 unfolding settingLines
-returns c = put-three _ _ (c .before .before .before .before .before .before .before .before .before .before .before .put-number .ensures) (omega (arith, c .before .before .before .before .before .before .before .before .before .before .before .before .before .before .before .before .pre)) (c .before .before .before .before .before .before .before .put-setting .ensures) (c .before .before .put-number2 .ensures)
+returns c =
+    let b7 = c .before .before .before .before .before .before .before in
+    let b11 = b7 .before .before .before .before in
+    let b16 = b11 .before .before .before .before .before in
+    put-three _ _ (b11 .put-number .ensures) (omega (arith, b16 .pre)) (b7 .put-setting .ensures) (c .before .before .put-number2 .ensures)
 
 pub put-lines-spec : {M : Type 1} → statement M
 put-lines-spec =

@@ -41,7 +41,9 @@ slice-aggregate-put-lines c =
 
 put-lines-requires : tie.Need-put-lines-requires
 put-lines-requires c κs =
-    let made = c .before .before .before .before .before .before .order-setting in
+    let b6 = c .before .before .before .before .before .before in
+    let b9 = b6 .before .before .before in
+    let made = b6 .order-setting in
     let w = c .before .before .switches in
     let few = places-few _ _ (report-outcome _ _ (made .ensures)) (c .before .before .before .if1 .left) in
     omega (
@@ -49,7 +51,7 @@ put-lines-requires c κs =
       lines-fit (made .result .answer .count) (take (w .result) (made .last .1 .0)) (made .result .entries) few
           (omega (arith, length-take (w .result) (made .last .1 .0), w .ensures .1))
           (omega (arith, entries-are _ _ (made .ensures) (c .before .before .before .if1 .left), entries-few (made .result .answer .count) few)),
-      c .before .before .before .before .before .before .before .before .before .good,
+      b9 .good,
     )
 
 returns-2 : tie.Need-returns-2

@@ -37,9 +37,12 @@ write-sheet-requires c κs = search needs
 
 returns-2 : tie.Need-returns-2
 returns-2 c =
-    let set = report-outcome _ _ (c .before .before .before .before .before .before .before .order-setting .ensures) in
+    let b4 = c .before .before .before .before in
+    let b7 = b4 .before .before .before in
+    let b10 = b7 .before .before .before in
+    let set = report-outcome _ _ (b7 .order-setting .ensures) in
     let w = c .before .before .before .switches .ensures in
-    sheet-written _ _ (c .before .before .before .before .before .before .before .before .before .before .args .out .now) set (c .before .before .before .before .if1 .left) (w .0) (w .1) (search needs) (c .write-sheet .ensures)
+    sheet-written _ _ (b10 .args .out .now) set (b4 .if1 .left) (w .0) (w .1) (search needs) (c .write-sheet .ensures)
 
 pub order-sheet-spec : {M : Type 1} → statement M
 order-sheet-spec =

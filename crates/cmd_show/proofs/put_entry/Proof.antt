@@ -1,4 +1,4 @@
--- `showing::put_entry` meets its contract.
+-- `cmd_show::put_entry` meets its contract.
 -- Assumes nothing.
 use native.Mathlib.Omega.{arith}
 use Rattle.answers.proofs.Putting.{put-then}
@@ -20,7 +20,10 @@ same-length : tie.Need-same-length
 same-length c = search needs
 
 returns : tie.Need-returns
-returns c = let s = c .before .before .before .before .before .before .before .before .before .before in (put-then (omega (arith, s .pre)) (c .before .before .before .before .before .before .put-text .ensures) (c .before .before .put-decimal .ensures), omega (arith, c .before .before .put-decimal .ensures .place, c .before .before .before .before .before .before .put-text .ensures .place, entry-few (s .args .v) (search needs)))
+returns c =
+    let b6 = c .before .before .before .before .before .before in
+    let b10 = b6 .before .before .before .before in
+    let s = b10 in (put-then (omega (arith, s .pre)) (b6 .put-text .ensures) (c .before .before .put-decimal .ensures), omega (arith, c .before .before .put-decimal .ensures .place, b6 .put-text .ensures .place, entry-few (s .args .v) (search needs)))
 
 pub put-entry-spec : {M : Type 1} → statement M
 put-entry-spec =

@@ -1,4 +1,4 @@
--- `showing::put_order` meets its contract.
+-- `cmd_show::put_order` meets its contract.
 -- Assumes nothing.
 use native.Mathlib.Omega.{arith}
 use Rattle.cmd_show.proofs.Showing.{order-line}
@@ -19,13 +19,21 @@ slice-aggregate-put-text-2 : tie.Need-slice-aggregate-put-text-2
 slice-aggregate-put-text-2 c = search needs
 
 put-text-requires-2 : tie.Need-put-text-requires-2
-put-text-requires-2 c κs = let s = c .before .before .before .before .before .before .before .before .before .before .before .before .before in omega (arith, s .pre, c .before .before .before .before .before .before .before .before .put-text .ensures .place, c .before .before .before .before .put-order-text .ensures .1, c .before .before .before .before .put-order-text .kept, c .before .before .before .before .before .before .before .before .put-text .kept)
+put-text-requires-2 c κs =
+    let b4 = c .before .before .before .before in
+    let b8 = b4 .before .before .before .before in
+    let b13 = b8 .before .before .before .before .before in
+    let s = b13 in omega (arith, s .pre, b8 .put-text .ensures .place, b4 .put-order-text .ensures .1, b4 .put-order-text .kept, b8 .put-text .kept)
 
 same-length : tie.Need-same-length
 same-length c = search needs
 
 returns : tie.Need-returns
-returns c = let s = c .before .before .before .before .before .before .before .before .before .before .before .before .before .before .before .before in order-line (s .args .order .now) (s .pre) (c .before .before .before .before .before .before .before .before .before .before .before .put-text .ensures) (c .before .before .before .before .before .before .before .put-order-text .ensures) (c .before .before .put-text2 .ensures)
+returns c =
+    let b7 = c .before .before .before .before .before .before .before in
+    let b11 = b7 .before .before .before .before in
+    let b16 = b11 .before .before .before .before .before in
+    let s = b16 in order-line (s .args .order .now) (s .pre) (b11 .put-text .ensures) (b7 .put-order-text .ensures) (c .before .before .put-text2 .ensures)
 
 pub put-order-spec : {M : Type 1} → statement M
 put-order-spec =

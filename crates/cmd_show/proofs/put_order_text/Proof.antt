@@ -1,4 +1,4 @@
--- `showing::put_order_text` meets its contract.
+-- `cmd_show::put_order_text` meets its contract.
 -- Assumes nothing.
 use mathlib.Core.Path.{refl}
 use Prim.Native.Nat.{_-_}
@@ -48,7 +48,11 @@ loop-less : tie.Need-loop-less Inv-loop μ-loop
 loop-less c = search needs
 
 loop-again : tie.Need-loop-again Inv-loop μ-loop
-loop-again c = let s = c .before .before .before .before .before .before .before .before .before .before in spacing-more _ _ _ (s .pre) (c .before .before .before .before .before .before .loop .inv) (c .before .before .before .before .before .loop-test .taken) refl (search needs) (c .before .before .put-entry .ensures)
+loop-again c =
+    let b5 = c .before .before .before .before .before in
+    let b6 = b5 .before in
+    let b10 = b6 .before .before .before .before in
+    let s = b10 in spacing-more _ _ _ (s .pre) (b6 .loop .inv) (b5 .loop-test .taken) refl (search needs) (c .before .before .put-entry .ensures)
 
 same-length-2 : tie.Need-same-length-2 Inv-loop μ-loop
 same-length-2 c = c .before .loop .inv .same

@@ -1,4 +1,4 @@
--- `showing::put_pictured` meets its contract.
+-- `cmd_show::put_pictured` meets its contract.
 -- Assumes nothing.
 use native.Mathlib.Omega.{arith}
 use Rattle.answers.proofs.Putting.{put-none}

@@ -1,4 +1,4 @@
--- `showing::put_rest` meets its contract.
+-- `cmd_show::put_rest` meets its contract.
 -- Assumes nothing.
 use mathlib.Core.Path.{sym}
 use native.Mathlib.Omega.{arith}
@@ -22,13 +22,20 @@ put-order-requires : tie.Need-put-order-requires
 put-order-requires c κs = let s = c .before .before .before .before .before .before in omega (arith, s .pre, length-take (s .args .n) (c .before .before .order-of-setting .last .1 .1 .0))
 
 put-pictured-requires : tie.Need-put-pictured-requires
-put-pictured-requires c κs = let s = c .before .before .before .before .before .before .before .before .before .before in (s .pre .2, s .pre .3, omega (arith, s .pre .0, s .pre .4, c .before .before .before .put-order .ensures .1, c .before .before .before .put-order .kept, length-take (s .args .n) (c .before .before .before .before .before .before .order-of-setting .last .1 .1 .0)))
+put-pictured-requires c κs =
+    let b6 = c .before .before .before .before .before .before in
+    let b10 = b6 .before .before .before .before in
+    let s = b10 in (s .pre .2, s .pre .3, omega (arith, s .pre .0, s .pre .4, c .before .before .before .put-order .ensures .1, c .before .before .before .put-order .kept, length-take (s .args .n) (b6 .order-of-setting .last .1 .1 .0)))
 
 same-length : tie.Need-same-length
 same-length c = search needs
 
 returns : tie.Need-returns
-returns c = let s = c .before .before .before .before .before .before .before .before .before .before .before .before .before in rest-put (s .args .n) (s .args .bits .now) _ (order-front (s .args .n) (s .args .bits .now) (replicate 1024 0) (c .before .before .before .before .before .before .before .before .before .order-of-setting .ensures)) (omega (arith, s .pre .0, s .pre .4, length-take (s .args .n) (c .before .before .before .before .before .before .before .before .before .order-of-setting .last .1 .1 .0))) (c .before .before .before .before .before .before .put-order .ensures) (c .before .before .put-pictured .ensures)
+returns c =
+    let b6 = c .before .before .before .before .before .before in
+    let b9 = b6 .before .before .before in
+    let b13 = b9 .before .before .before .before in
+    let s = b13 in rest-put (s .args .n) (s .args .bits .now) _ (order-front (s .args .n) (s .args .bits .now) (replicate 1024 0) (b9 .order-of-setting .ensures)) (omega (arith, s .pre .0, s .pre .4, length-take (s .args .n) (b9 .order-of-setting .last .1 .1 .0))) (b6 .put-order .ensures) (c .before .before .put-pictured .ensures)
 
 pub put-rest-spec : {M : Type 1} → statement M
 put-rest-spec =

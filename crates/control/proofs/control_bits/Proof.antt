@@ -40,8 +40,11 @@ refuse-requires-3 c κs = search needs
 
 returns-3 : tie.Need-returns-3
 returns-3 c =
-    refused (c .before .before .before .before .before .before .before .before .before .args .order .now) (c .before .before .before .before .before .before .before .before .before .args .bits .now) (c .before .before .before .before .before .before .before .before .before .args .log .now) 5 0
-    (no-5 (c .before .before .before .before .before .before .before .before .before .args .order .now) (c .before .before .before .before .before .before .before .before .before .args .bits .now) (c .before .before .before .before .before .before .before .before .before .args .log .now) (c .before .before .before .before .before .if1 .left) (c .before .before .before .if2 .left ∙ c .before .before .before .before .switches .ensures .0) (omega (arith, c .before .if3 .taken, c .before .before .entries .ensures .0))) (c .refuse3 .ensures) refl refl
+    let b4 = c .before .before .before .before in
+    let b5 = b4 .before in
+    let b9 = b5 .before .before .before .before in
+    refused (b9 .args .order .now) (b9 .args .bits .now) (b9 .args .log .now) 5 0
+    (no-5 (b9 .args .order .now) (b9 .args .bits .now) (b9 .args .log .now) (b5 .if1 .left) (c .before .before .before .if2 .left ∙ b4 .switches .ensures .0) (omega (arith, c .before .if3 .taken, c .before .before .entries .ensures .0))) (c .refuse3 .ensures) refl refl
 
 first-bad-entry-requires : tie.Need-first-bad-entry-requires
 first-bad-entry-requires c κs = search needs
@@ -51,20 +54,31 @@ refuse-requires-4 c κs = search needs
 
 returns-4 : tie.Need-returns-4
 returns-4 c =
+    let b4 = c .before .before .before .before in
+    let b5 = b4 .before in
+    let b6 = b5 .before in
+    let b7 = b6 .before in
+    let b11 = b7 .before .before .before .before in
     let f = c .before .before .first-bad-entry .ensures in
-    refused (c .before .before .before .before .before .before .before .before .before .before .before .args .order .now) (c .before .before .before .before .before .before .before .before .before .before .before .args .bits .now) (c .before .before .before .before .before .before .before .before .before .before .before .args .log .now) 6 (firstBadEntry (c .before .before .before .before .before .before .before .before .before .before .before .args .order .now))
-    (no-6 (c .before .before .before .before .before .before .before .before .before .before .before .args .order .now) (c .before .before .before .before .before .before .before .before .before .before .before .args .bits .now) (c .before .before .before .before .before .before .before .before .before .before .before .args .log .now) (c .before .before .before .before .before .before .before .if1 .left) (c .before .before .before .before .before .if2 .left ∙ c .before .before .before .before .before .before .switches .ensures .0) (omega (arith, c .before .before .before .if3 .left, c .before .before .before .before .entries .ensures .0)) (λ e. c .before .if4 .taken (f ∙ e))) (c .refuse4 .ensures ∙ ap (refusal 6) f) refl refl
+    refused (b11 .args .order .now) (b11 .args .bits .now) (b11 .args .log .now) 6 (firstBadEntry (b11 .args .order .now))
+    (no-6 (b11 .args .order .now) (b11 .args .bits .now) (b11 .args .log .now) (b7 .if1 .left) (b5 .if2 .left ∙ b6 .switches .ensures .0) (omega (arith, c .before .before .before .if3 .left, b4 .entries .ensures .0)) (λ e. c .before .if4 .taken (f ∙ e))) (c .refuse4 .ensures ∙ ap (refusal 6) f) refl refl
 
 set-order-requires : tie.Need-set-order-requires
 set-order-requires c κs =
-    let a = c .before .before .before .before .before .before .before .before .before .before .before .before .args in
-    let n : length (a .order .now) ≤ 1024 = c .before .before .before .before .before .before .before .before .if1 .left in
-    let b : length (a .bits .now) ≡ W (length (a .order .now)) = c .before .before .before .before .before .before .if2 .left ∙ c .before .before .before .before .before .before .before .switches .ensures .0 in (
+    let b4 = c .before .before .before .before in
+    let b5 = b4 .before in
+    let b6 = b5 .before in
+    let b7 = b6 .before in
+    let b8 = b7 .before in
+    let b12 = b8 .before .before .before .before in
+    let a = b12 .args in
+    let n : length (a .order .now) ≤ 1024 = b8 .if1 .left in
+    let b : length (a .bits .now) ≡ W (length (a .order .now)) = b6 .if2 .left ∙ b7 .switches .ensures .0 in (
       n,
       below-passed (a .order .now) n (sym (c .before .before .before .first-bad-entry .ensures) ∙ c .before .before .if4 .left),
       b,
-      omega (arith, b, c .before .before .before .before .before .before .before .switches .ensures),
-      omega (arith, c .before .before .before .before .if3 .left, c .before .before .before .before .before .entries .ensures .0),
+      omega (arith, b, b7 .switches .ensures),
+      omega (arith, b4 .if3 .left, b5 .entries .ensures .0),
     )
 
 accept-requires : tie.Need-accept-requires
@@ -78,9 +92,18 @@ same-length-2 c = search needs
 
 returns-5 : tie.Need-returns-5
 returns-5 c =
-    let s = c .before .before .before .before .before .set-order in
-    taken (c .before .before .before .before .before .before .before .before .before .before .before .before .before .before .before .before .before .before .args .order .now) (c .before .before .before .before .before .before .before .before .before .before .before .before .before .before .before .before .before .before .args .bits .now) (c .before .before .before .before .before .before .before .before .before .before .before .before .before .before .before .before .before .before .args .log .now) (s .result)
-    (all-yes (c .before .before .before .before .before .before .before .before .before .before .before .before .before .before .before .before .before .before .args .order .now) (c .before .before .before .before .before .before .before .before .before .before .before .before .before .before .before .before .before .before .args .bits .now) (c .before .before .before .before .before .before .before .before .before .before .before .before .before .before .before .before .before .before .args .log .now) (c .before .before .before .before .before .before .before .before .before .before .before .before .before .before .if1 .left) (c .before .before .before .before .before .before .before .before .before .before .before .before .if2 .left ∙ c .before .before .before .before .before .before .before .before .before .before .before .before .before .switches .ensures .0) (omega (arith, c .before .before .before .before .before .before .before .before .before .before .if3 .left, c .before .before .before .before .before .before .before .before .before .before .before .entries .ensures .0)) (sym (c .before .before .before .before .before .before .before .before .before .first-bad-entry .ensures) ∙ c .before .before .before .before .before .before .before .before .if4 .left)) (s .ensures) (s .kept .1 .0)
+    let b5 = c .before .before .before .before .before in
+    let b8 = b5 .before .before .before in
+    let b9 = b8 .before in
+    let b10 = b9 .before in
+    let b11 = b10 .before in
+    let b12 = b11 .before in
+    let b13 = b12 .before in
+    let b14 = b13 .before in
+    let b18 = b14 .before .before .before .before in
+    let s = b5 .set-order in
+    taken (b18 .args .order .now) (b18 .args .bits .now) (b18 .args .log .now) (s .result)
+    (all-yes (b18 .args .order .now) (b18 .args .bits .now) (b18 .args .log .now) (b14 .if1 .left) (b12 .if2 .left ∙ b13 .switches .ensures .0) (omega (arith, b10 .if3 .left, b11 .entries .ensures .0)) (sym (b9 .first-bad-entry .ensures) ∙ b8 .if4 .left)) (s .ensures) (s .kept .1 .0)
     (c .accept .ensures)
 
 pub control-bits-spec : {M : Type 1} → statement M

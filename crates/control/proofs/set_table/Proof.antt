@@ -19,9 +19,12 @@ clear-requires c κs = search needs
 
 set-network-requires : tie.Need-set-network-requires
 set-network-requires c κs =
-    let a = c .before .before .before .before .before .before .before .before .before .before .before .before .before .before .before .before .before .before .before in
-    let v = c .before .before .before .before .before .before .before .before .before .before .before .load in
-    let b = c .before .before .before .before .before .before .before .clear in
+    let b7 = c .before .before .before .before .before .before .before in
+    let b11 = b7 .before .before .before .before in
+    let b19 = b11 .before .before .before .before .before .before .before .before in
+    let a = b19 in
+    let v = b11 .load in
+    let b = b7 .clear in
     let o = a .args .order .now in
     let bs : b .last .0 ≡ replicate {A = ℕ} (W (length o)) 0 = b .ensures ∙ cleared (a .args .bits .now) (W (length o)) (a .pre .5) in (
       room-start o (v .last .0) (a .args .trails .now) (a .args .marks .now) (b .last .0) (a .args .log .now) (a .pre .0) (v .kept .0 ∙ a .pre .2) (a .pre .3)
@@ -47,10 +50,14 @@ same-length-5 c = search needs
 
 returns : tie.Need-returns
 returns c =
-    let a = c .before .before .before .before .before .before .before .before .before .before .before .before .before .before .before .before .before .before .before .before .before .before .before .before .before .before .before .before .before .before in
-    let v = c .before .before .before .before .before .before .before .before .before .before .before .before .before .before .before .before .before .before .before .before .before .before .load in
-    let b = c .before .before .before .before .before .before .before .before .before .before .before .before .before .before .before .before .before .before .clear in
-    let x = c .before .before .before .before .before .before .before .before .before .before .set-network in
+    let b10 = c .before .before .before .before .before .before .before .before .before .before in
+    let b18 = b10 .before .before .before .before .before .before .before .before in
+    let b22 = b18 .before .before .before .before in
+    let b30 = b22 .before .before .before .before .before .before .before .before in
+    let a = b30 in
+    let v = b22 .load in
+    let b = b18 .clear in
+    let x = b10 .set-network in
     sets-whole (a .args .order .now) (v .last .0) (a .args .trails .now) (a .args .marks .now) (b .last .0) (a .args .bits .now) (a .args .log .now) _ _ _ _ _ (x .result)
     (v .ensures) (a .pre .3) (a .pre .4) (b .ensures) (a .pre .5) (x .ensures .0) (x .ensures .1)
 

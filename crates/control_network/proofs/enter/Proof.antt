@@ -20,8 +20,10 @@ input-steps-requires c κs = search needs
 
 step5-requires : tie.Need-step5-requires
 step5-requires c κs =
-    let a = c .before .before .before .before .before .before .before .before .before .before .before .before .before .before .before .before .before .before .before .before .before .before .before .before in
-    let x = c .before .before .before .before .before .before .before .before .before .before .before .before .before .input-steps in
+    let b13 = c .before .before .before .before .before .before .before .before .before .before .before .before .before in
+    let b24 = b13 .before .before .before .before .before .before .before .before .before .before .before in
+    let a = b24 in
+    let x = b13 .input-steps in
     let R = a .pre .1 in
     let T : Tidy 32768 (state (x .last .0) (x .last .1 .0) (x .last .1 .1 .0) (x .last .1 .1 .1 .0) (x .result)) =
     rw (x .ensures .1) (tidy-input (within (a .args .o) (a .args .m) (a .args .w .b)) (omega (arith, R .places)) 32768 (omega arith) (state (a .args .vals .now) (a .args .trails .now) (a .args .marks .now) (a .args .bits .now) (a .args .w)) (a .pre .2))
@@ -53,9 +55,12 @@ same-length-5 c = search needs
 
 returns : tie.Need-returns
 returns c =
-    let a = c .before .before .before .before .before .before .before .before .before .before .before .before .before .before .before .before .before .before .before .before .before .before .before .before .before .before .before .before .before .before .before in
-    let x = c .before .before .before .before .before .before .before .before .before .before .before .before .before .before .before .before .before .before .before .before .input-steps in
-    let y = c .before .before .before .before .before .before .step5 in (
+    let b6 = c .before .before .before .before .before .before in
+    let b20 = b6 .before .before .before .before .before .before .before .before .before .before .before .before .before .before in
+    let b31 = b20 .before .before .before .before .before .before .before .before .before .before .before in
+    let a = b31 in
+    let x = b20 .input-steps in
+    let y = b6 .step5 in (
       went-as refl (omega arith)
           (went-then (omega (arith, a .pre .1 .log-room, E-parts (a .args .o) (a .args .m) (a .pre .0))) (x .ensures .0) (y .ensures .0)),
       y .ensures .1 (x .last .1 .1 .0) (x .last .1 .1 .1 .0) (a .args .w .b) ∙ ap (step5 paper (within (a .args .o) (a .args .m) (a .args .w .b))) (x .ensures .1),

@@ -27,8 +27,10 @@ returns c =
 
 rounds-requires : tie.Need-rounds-requires
 rounds-requires c κs =
-    let a = c .before .before .before .before .before .before .before .before .before .before in
-    let h : 3 ≤ a .args .m = c .before .before .before .before .if1 .left in
+    let b4 = c .before .before .before .before in
+    let b10 = b4 .before .before .before .before .before .before in
+    let a = b10 in
+    let h : 3 ≤ a .args .m = b4 .if1 .left in
     let R = a .pre .1 in (
       a .pre .0,
       R .places,
@@ -41,9 +43,12 @@ rounds-requires c κs =
 
 step4-requires : tie.Need-step4-requires
 step4-requires c κs =
-    let a = c .before .before .before .before .before .before .before .before .before .before .before .before .before .before .before .before .before .before .before .before .before .before in
-    let h : 3 ≤ a .args .m = c .before .before .before .before .before .before .before .before .before .before .before .before .before .before .before .before .if1 .left in
-    let x = c .before .before .before .before .before .before .before .before .before .before .before .rounds in
+    let b11 = c .before .before .before .before .before .before .before .before .before .before .before in
+    let b16 = b11 .before .before .before .before .before in
+    let b22 = b16 .before .before .before .before .before .before in
+    let a = b22 in
+    let h : 3 ≤ a .args .m = b16 .if1 .left in
+    let x = b11 .rounds in
     let R = a .pre .1 in
     let T : Tidy 32768 (state (a .args .vals .now) (a .args .trails .now) (x .last .1 .0) (x .last .1 .1 .0) (x .result)) =
     rw (x .ensures .1 (a .args .trails .now)) (tidy-rounds (within (a .args .o) (a .args .m) (a .args .w .b)) (omega (arith, R .places)) 32768 (omega arith) (up (a .args .m)) (state (a .args .vals .now) (a .args .trails .now) (a .args .marks .now) (a .args .bits .now) (a .args .w)) (a .pre .2))
@@ -75,10 +80,14 @@ same-length-5 c = search needs
 
 returns-2 : tie.Need-returns-2
 returns-2 c =
-    let a = c .before .before .before .before .before .before .before .before .before .before .before .before .before .before .before .before .before .before .before .before .before .before .before .before .before .before .before .before .before .before .before in
-    let h : 3 ≤ a .args .m = c .before .before .before .before .before .before .before .before .before .before .before .before .before .before .before .before .before .before .before .before .before .before .before .before .before .if1 .left in
-    let x = c .before .before .before .before .before .before .before .before .before .before .before .before .before .before .before .before .before .before .before .before .rounds in
-    let y = c .before .before .before .before .before .before .before .before .step4 in
+    let b8 = c .before .before .before .before .before .before .before .before in
+    let b20 = b8 .before .before .before .before .before .before .before .before .before .before .before .before in
+    let b25 = b20 .before .before .before .before .before in
+    let b31 = b25 .before .before .before .before .before .before in
+    let a = b31 in
+    let h : 3 ≤ a .args .m = b25 .if1 .left in
+    let x = b20 .rounds in
+    let y = b8 .step4 in
     let b : x .result .b ≡ a .args .w .b = omega (arith, x .ensures .0 .bit) in (
       went-as (input-some (a .args .o) (a .args .m) h) (omega arith)
           (went-then (omega (arith, a .pre .1 .log-room, length-rounds (up (a .args .m)) (a .args .o) (a .args .m), E-more (a .args .m) h)) (x .ensures .0) (y .ensures .0)),

@@ -21,7 +21,8 @@ step1-requires c κs = search needs
 
 step2-requires : tie.Need-step2-requires
 step2-requires c κs =
-    let a = c .before .before .before .before .before .before .before .before .before .before in
+    let b10 = c .before .before .before .before .before .before .before .before .before .before in
+    let a = b10 in
     let x = c .before .before .before .step1 in
     let T : Tidy 32768 (state (a .args .vals .now) [] (a .args .marks .now) (a .args .bits .now) (x .result)) =
     rw (x .ensures .1 [] (a .args .bits .now) (a .args .w .b))
@@ -31,9 +32,12 @@ step2-requires c κs =
 
 step3-requires : tie.Need-step3-requires
 step3-requires c κs =
-    let a = c .before .before .before .before .before .before .before .before .before .before .before .before .before .before .before .before in
-    let x = c .before .before .before .before .before .before .before .before .before .step1 in
-    let y = c .before .before .before .before .before .step2 in
+    let b5 = c .before .before .before .before .before in
+    let b9 = b5 .before .before .before .before in
+    let b16 = b9 .before .before .before .before .before .before .before in
+    let a = b16 in
+    let x = b9 .step1 in
+    let y = b5 .step2 in
     let s : Walk → State = state (a .args .vals .now) [] (a .args .marks .now) (a .args .bits .now) in
     let T : Tidy 32768 (s (y .result)) =
     rw (y .ensures .1 [] (a .args .marks .now) (a .args .bits .now) (a .args .w .b), x .ensures .1 [] (a .args .bits .now) (a .args .w .b))
@@ -62,11 +66,15 @@ same-length-3 c = search needs
 returns : tie.Need-returns
 unfolding roundsOf
 returns c =
-    let a = c .before .before .before .before .before .before .before .before .before .before .before .before .before .before .before .before .before .before .before .before .before .before .before .args in
-    let p = c .before .before .before .before .before .before .before .before .before .before .before .before .before .before .before .before .before .before .before .before .before .before .before .pre in
-    let x = c .before .before .before .before .before .before .before .before .before .before .before .before .before .before .before .before .step1 in
-    let y = c .before .before .before .before .before .before .before .before .before .before .before .before .step2 in
-    let z = c .before .before .before .before .before .before .step3 in
+    let b6 = c .before .before .before .before .before .before in
+    let b12 = b6 .before .before .before .before .before .before in
+    let b16 = b12 .before .before .before .before in
+    let b23 = b16 .before .before .before .before .before .before .before in
+    let a = b23 .args in
+    let p = b23 .pre in
+    let x = b16 .step1 in
+    let y = b12 .step2 in
+    let z = b6 .step3 in
     let b : y .result .b ≡ a .w .b = omega (arith, x .ensures .0 .bit, y .ensures .0 .bit) in (
       went-then (omega (arith, p .5)) (x .ensures .0)
           (went-then (omega (arith, p .5, x .ensures .0 .count, x .kept .1 .1 .1 .1 .0)) (y .ensures .0) (z .ensures .0)),

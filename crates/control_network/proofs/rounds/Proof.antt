@@ -31,8 +31,10 @@ loop-holds c = ((omega arith, refl, refl, refl), went-none (c .before .before .b
 
 round-requires : tie.Need-round-requires Inv-loop μ-loop
 round-requires c κs =
-    let a = c .before .before .before .before .before .before .before .before .before in
-    let l = c .before .before .before .before .loop in
+    let b4 = c .before .before .before .before in
+    let b9 = b4 .before .before .before .before .before in
+    let a = b9 in
+    let l = b4 .loop in
     let i : l .i < up (a .args .m) = c .before .before .before .loop-test .taken in
     let G = l .inv .1 in (
       a .pre .0,
@@ -53,11 +55,15 @@ loop-less c = omega arith
 
 loop-again : tie.Need-loop-again Inv-loop μ-loop
 loop-again c =
-    let a = c .before .before .before .before .before .before .before .before .before .before .before .before .before .before .before .before in
-    let l = c .before .before .before .before .before .before .before .before .before .before .before .loop in
-    let r = c .before .before .before .before .before .before .round in
+    let b6 = c .before .before .before .before .before .before in
+    let b10 = b6 .before .before .before .before in
+    let b11 = b10 .before in
+    let b16 = b11 .before .before .before .before .before in
+    let a = b16 in
+    let l = b11 .loop in
+    let r = b6 .round in
     let G = l .inv .1 in
-    let i : l .i < up (a .args .m) = c .before .before .before .before .before .before .before .before .before .before .loop-test .taken in
+    let i : l .i < up (a .args .m) = b10 .loop-test .taken in
     let b : l .x .b ≡ a .args .w .b = omega (arith, G .bit) in (
       (omega (arith, i), r .kept .1 .0 ∙ l .inv .0 .1, r .kept .1 .1 .0 ∙ l .inv .0 .2, r .kept .1 .1 .1 .1 .1 .0 ∙ l .inv .0 .3),
       went-as (rounds-more (l .i) (a .args .o) (a .args .m)) refl

@@ -17,20 +17,24 @@ last-bits-requires c κs = search needs
 
 act-on-requires : tie.Need-act-on-requires
 act-on-requires c κs =
-    let a = c .before .before .before .before .before .before .before .before .before .before in (
+    let b4 = c .before .before .before .before in
+    let b10 = b4 .before .before .before .before .before .before in
+    let a = b10 in (
       omega (arith, a .pre .0),
       omega (arith, a .pre .0, a .pre .2),
       search needs,
-      rw (c .before .before .before .before .last-bits .ensures) (each-below 2 2 _ _ _ (a .args .bits .now) (omega arith) (a .pre .5) (λ i x h. omega arith)),
+      rw (b4 .last-bits .ensures) (each-below 2 2 _ _ _ (a .args .bits .now) (omega arith) (a .pre .5) (λ i x h. omega arith)),
     )
 
 act-on-requires-2 : tie.Need-act-on-requires-2
 act-on-requires-2 c κs =
-    let a = c .before .before .before .before .before .before .before .before .before .before .before .before .before .before .before in (
+    let b9 = c .before .before .before .before .before .before .before .before .before in
+    let b15 = b9 .before .before .before .before .before .before in
+    let a = b15 in (
       omega (arith, a .pre .0),
       omega (arith, a .pre .0, a .pre .3),
       search needs,
-      rw (c .before .before .before .before .before .before .before .before .before .last-bits .ensures) (each-below 2 2 _ _ _ (a .args .bits .now) (omega arith) (a .pre .5) (λ i x h. omega arith)),
+      rw (b9 .last-bits .ensures) (each-below 2 2 _ _ _ (a .args .bits .now) (omega arith) (a .pre .5) (λ i x h. omega arith)),
     )
 
 same-length : tie.Need-same-length
@@ -43,7 +47,10 @@ same-length-3 : tie.Need-same-length-3
 same-length-3 c = search needs
 
 returns : tie.Need-returns
-returns c = record { bits-are = c .before .before .before .before .before .before .before .before .before .before .before .before .last-bits .ensures; values-are = c .before .before .before .before .before .before .before .act-on .ensures; trails-are = c .before .before .act-on2 .ensures }
+returns c =
+    let b7 = c .before .before .before .before .before .before .before in
+    let b12 = b7 .before .before .before .before .before in
+    record { bits-are = b12 .last-bits .ensures; values-are = b7 .act-on .ensures; trails-are = c .before .before .act-on2 .ensures }
 
 pub output-switches-spec : {M : Type 1} → statement M
 output-switches-spec =

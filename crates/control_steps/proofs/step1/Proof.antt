@@ -52,11 +52,16 @@ same-length c = search needs
 
 returns : tie.Need-returns
 returns c =
-    let a = c .before .before .before .before .before .before .before .before .before .before .before .args in (
+    let b4 = c .before .before .before .before in
+    let b5 = b4 .before in
+    let b6 = b5 .before in
+    let b7 = b6 .before in
+    let b11 = b7 .before .before .before .before in
+    let a = b11 .args in (
       went-one 1 (a .o) (a .m) 0 (a .w) _ (a .log .now) _ (omega arith) (omega arith) (c .before .before .write-entry .ensures),
       λ ts bs bit.
-          step1-is (a .o) (a .m) bit (a .vals .now) ts (a .marks .now) bs (a .w) (c .before .before .before .before .before .before .before .any-marked .result) (c .before .before .before .before .before .before .pick .result) (c .before .before .before .before .before .pick2 .result)
-          (c .before .before .before .before .look-at .result) (c .before .before .before .before .before .before .before .any-marked .ensures) (c .before .before .before .before .before .before .pick .ensures) (c .before .before .before .before .before .pick2 .ensures) (c .before .before .before .before .look-at .ensures),
+          step1-is (a .o) (a .m) bit (a .vals .now) ts (a .marks .now) bs (a .w) (b7 .any-marked .result) (b6 .pick .result) (b5 .pick2 .result)
+          (b4 .look-at .result) (b7 .any-marked .ensures) (b6 .pick .ensures) (b5 .pick2 .ensures) (b4 .look-at .ensures),
     )
 
 pub step1-spec : {M : Type 1} → statement M

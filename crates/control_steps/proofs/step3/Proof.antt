@@ -52,9 +52,11 @@ cast-turn c = search needs
 
 turn-requires : tie.Need-turn-requires
 turn-requires c κs =
-    let a = c .before .before .before .before .before .before .before .before .before .before .before .before .before .before .before .before .before .before in (
+    let b6 = c .before .before .before .before .before .before in
+    let b18 = b6 .before .before .before .before .before .before .before .before .before .before .before .before in
+    let a = b18 in (
       omega (arith, a .pre .1),
-      omega (arith, a .pre .1, low-within (c .before .before .before .before .before .before .mark-pair .ensures)),
+      omega (arith, a .pre .1, low-within (b6 .mark-pair .ensures)),
       a .pre .6,
       a .pre .7,
       omega (arith, a .pre .4, a .good .1 .1 .1 .1 .0 .0),
@@ -71,13 +73,19 @@ same-length-3 c = search needs
 
 returns : tie.Need-returns
 returns c =
-    let a = c .before .before .before .before .before .before .before .before .before .before .before .before .before .before .before .before .before .before .before .args in (
+    let b7 = c .before .before .before .before .before .before .before in
+    let b11 = b7 .before .before .before .before in
+    let b12 = b11 .before in
+    let b14 = b12 .before .before in
+    let b15 = b14 .before in
+    let b19 = b15 .before .before .before .before in
+    let a = b19 .args in (
       went-one 3 (a .o) (a .m) 0 (a .w) (c .turn .result) (a .log .now) _ (ap (λ (r : Walk). r .e) (c .turn .ensures)) (ap (λ (r : Walk). r .b) (c .turn .ensures) ∙ omega arith)
           (c .before .before .before .write-entry .ensures),
       λ vs ts.
-          step3-is (a .o) (a .m) (a .w .b) vs ts (a .marks .now) (a .bits .now) (a .w) (c .turn .result) (c .before .before .before .before .before .before .before .before .before .before .before .before .before .before .before .pair-of .result) (c .before .before .before .before .before .before .before .before .before .before .before .before .switch-of .result)
-          (c .before .before .before .before .before .before .before .before .before .before .before .before .before .before .below .result) (c .before .before .before .before .before .before .before .mark-pair .result) _ _ (c .before .before .before .before .before .before .before .before .before .before .before .before .before .before .before .pair-of .ensures) (c .before .before .before .before .before .before .before .before .before .before .before .before .switch-of .ensures) (c .before .before .before .before .before .before .before .before .before .before .before .before .before .before .below .ensures .0)
-          (c .before .before .before .before .before .before .before .before .before .before .before .store-at .ensures) (c .before .before .before .before .before .before .before .mark-pair .ensures) (c .turn .ensures),
+          step3-is (a .o) (a .m) (a .w .b) vs ts (a .marks .now) (a .bits .now) (a .w) (c .turn .result) (b15 .pair-of .result) (b12 .switch-of .result)
+          (b14 .below .result) (b7 .mark-pair .result) _ _ (b15 .pair-of .ensures) (b12 .switch-of .ensures) (b14 .below .ensures .0)
+          (b11 .store-at .ensures) (b7 .mark-pair .ensures) (c .turn .ensures),
     )
 
 pub step3-spec : {M : Type 1} → statement M

@@ -50,11 +50,15 @@ same-length-4 c = search needs
 
 returns : tie.Need-returns
 returns c =
-    let a = c .before .before .before .before .before .before .before .before .before .before .before .before .before .before .before .before .before .before .before .before .before .before .args in (
+    let b7 = c .before .before .before .before .before .before .before in
+    let b11 = b7 .before .before .before .before in
+    let b15 = b11 .before .before .before .before in
+    let b22 = b15 .before .before .before .before .before .before .before in
+    let a = b22 .args in (
       went-one 4 (a .o) (a .m) (up (a .m) - 1) (a .w) (c .passed .result) (a .log .now) _ (ap (λ (r : Walk). r .e) (c .passed .ensures))
           (ap (λ (r : Walk). r .b) (c .passed .ensures)) (c .before .before .before .write-entry .ensures),
       step4-is (a .o) (a .m) (a .w .b) (a .vals .now) (a .trails .now) (a .marks .now) (a .bits .now) (a .w) (c .passed .result) (up (a .m) - 1) _ _ _
-          (c .before .before .before .before .before .before .before .before .before .before .before .before .before .before .before .act-on .ensures) (c .before .before .before .before .before .before .before .before .before .before .before .act-on2 .ensures) (c .before .before .before .before .before .before .before .clear .ensures) (c .passed .ensures),
+          (b15 .act-on .ensures) (b11 .act-on2 .ensures) (b7 .clear .ensures) (c .passed .ensures),
     )
 
 pub step4-spec : {M : Type 1} → statement M

@@ -39,11 +39,14 @@ same-length-3 c = search needs
 
 returns : tie.Need-returns
 returns c =
-    let a = c .before .before .before .before .before .before .before .before .before .before .before .before .before .before .before .before .before .args in (
+    let b7 = c .before .before .before .before .before .before .before in
+    let b11 = b7 .before .before .before .before in
+    let b17 = b11 .before .before .before .before .before .before in
+    let a = b17 .args in (
       went-one 5 (a .o) (a .m) 0 (a .w) (c .passed .result) (a .log .now) _ (ap (λ (r : Walk). r .e) (c .passed .ensures))
           (ap (λ (r : Walk). r .b) (c .passed .ensures)) (c .before .before .before .write-entry .ensures),
       λ ms bs bit.
-          step5-is (a .o) (a .m) bit (a .vals .now) (a .trails .now) ms bs (a .w) (c .passed .result) 0 _ _ (c .before .before .before .before .before .before .before .lose .ensures) (c .before .before .before .before .before .before .before .before .before .before .before .gain-bits .ensures)
+          step5-is (a .o) (a .m) bit (a .vals .now) (a .trails .now) ms bs (a .w) (c .passed .result) 0 _ _ (b7 .lose .ensures) (b11 .gain-bits .ensures)
           (c .passed .ensures),
     )
 

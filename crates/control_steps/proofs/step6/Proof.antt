@@ -22,8 +22,10 @@ cast-regain c = search needs
 
 regain-requires : tie.Need-regain-requires
 regain-requires c κs =
-    let a = c .before .before .before .before .before .before .before .before .before .before .before .before .before .before .before .before in
-    let S = c .before .before .before .before .before .before .before .before .output-switches .ensures in
+    let b8 = c .before .before .before .before .before .before .before .before in
+    let b16 = b8 .before .before .before .before .before .before .before .before in
+    let a = b16 in
+    let S = b8 .output-switches .ensures in
     (omega (arith, a .pre .1), search needs, search needs, rw (S .values-are) (act-below 32768 _ _ _ _ (a .args .vals .now) (a .pre .7)))
 
 lose-bits-requires : tie.Need-lose-bits-requires
@@ -37,7 +39,8 @@ sub-passed c = search needs
 
 passed-requires : tie.Need-passed-requires
 passed-requires c κs =
-    let a = c .before .before .before .before .before .before .before .before .before .before .before .before .before .before .before .before .before .before .before .before .before .before .before .before .before .before .before in
+    let b27 = c .before .before .before .before .before .before .before .before .before .before .before .before .before .before .before .before .before .before .before .before .before .before .before .before .before .before .before in
+    let a = b27 in
     (omega (arith, a .pre .5, a .good .1 .1 .1 .1 .1 .0 .0), omega (arith, a .pre .4, a .good .1 .1 .0 .0))
 
 same-length : tie.Need-same-length
@@ -54,12 +57,16 @@ same-length-4 c = search needs
 
 returns : tie.Need-returns
 returns c =
-    let a = c .before .before .before .before .before .before .before .before .before .before .before .before .before .before .before .before .before .before .before .before .before .before .before .before .before .before .before .before .args in (
+    let b7 = c .before .before .before .before .before .before .before in
+    let b11 = b7 .before .before .before .before in
+    let b20 = b11 .before .before .before .before .before .before .before .before .before in
+    let b28 = b20 .before .before .before .before .before .before .before .before in
+    let a = b28 .args in (
       went-one 6 (a .o) (a .m) (a .m - up (a .m)) (a .w) (c .passed .result) (a .log .now) _ (ap (λ (r : Walk). r .e) (c .passed .ensures))
           (ap (λ (r : Walk). r .b) (c .passed .ensures)) (c .before .before .before .write-entry .ensures),
       λ ms bit e.
           step6-is (a .o) (a .m) bit (a .vals .now) (a .trails .now) ms (a .bits .now) (a .w) (c .passed .result) (a .m - up (a .m)) (a .w .b) _ _ _ _ _
-          (c .before .before .before .before .before .before .before .before .before .before .before .before .before .before .before .before .before .before .before .before .output-switches .ensures) (c .before .before .before .before .before .before .before .before .before .before .before .regain .ensures) (c .before .before .before .before .before .before .before .lose-bits .ensures) (c .passed .ensures) e,
+          (b20 .output-switches .ensures) (b11 .regain .ensures) (b7 .lose-bits .ensures) (c .passed .ensures) e,
     )
 
 pub step6-spec : {M : Type 1} → statement M

@@ -64,7 +64,10 @@ slice-write-xs : tie.Need-slice-write-xs Inv-loop μ-loop
 slice-write-xs c = omega arith
 
 pick-requires-2 : tie.Need-pick-requires-2 Inv-loop μ-loop
-pick-requires-2 c κs = rw (c .before .before .before .wide .ensures) (at-place 2 (c .before .before .before .before .before .before .before .before .before .args .bits .now) (c .before .before .before .before .before .before .before .before .before .args .b + c .before .before .before .before .before .before .loop .i) (c .before .before .before .before .before .before .before .before .before .pre .3))
+pick-requires-2 c κs =
+    let b6 = c .before .before .before .before .before .before in
+    let b9 = b6 .before .before .before in
+    rw (c .before .before .before .wide .ensures) (at-place 2 (b9 .args .bits .now) (b9 .args .b + b6 .loop .i) (b9 .pre .3))
 
 add-xs-2 : tie.Need-add-xs-2 Inv-loop μ-loop
 add-xs-2 c = omega arith
@@ -86,12 +89,15 @@ loop-less c = omega arith
 
 loop-again : tie.Need-loop-again Inv-loop μ-loop
 loop-again c =
-    let l = c .before .before .before .before .before .before .before .loop in
-    let a = c .before .before .before .before .before .before .before .before .before .before .args in (
+    let b4 = c .before .before .before .before in
+    let b7 = b4 .before .before .before in
+    let b10 = b7 .before .before .before in
+    let l = b7 .loop in
+    let a = b10 .args in (
       (omega arith, simp length-set (l .inv .0 .1)),
       rw (c .pick2 .ensures, c .before .pick .ensures)
-          (act-step (a .o) (a .k) (l .i) (c .before .before .before .before .wide .result) (λ p. a .o + paper .enc (a .k) p) (a .bits .now) (l .xs) (a .xs .now) (a .b) refl refl
-          (c .before .before .before .before .wide .ensures) (l .inv .1)),
+          (act-step (a .o) (a .k) (l .i) (b4 .wide .result) (λ p. a .o + paper .enc (a .k) p) (a .bits .now) (l .xs) (a .xs .now) (a .b) refl refl
+          (b4 .wide .ensures) (l .inv .1)),
     )
 
 same-length : tie.Need-same-length Inv-loop μ-loop

@@ -50,7 +50,12 @@ bad-form-requires-2 : tie.Need-bad-form-requires-2
 bad-form-requires-2 c κs = search needs
 
 returns-5 : tie.Need-returns-5
-returns-5 c = ap meaning (c .bad-form2 .ensures) ∙ third _ _ (c .before .before .before .before .before .before .before .before .before .if1 .left) (c .before .before .before .before .before .before .before .wide .ensures) (c .before .before .before .before .before .before .if2 .left) (c .before .before .before .before .before .if3 .left) (c .before .before .before .wide2 .ensures) (c .before .if5 .taken)
+returns-5 c =
+    let b5 = c .before .before .before .before .before in
+    let b6 = b5 .before in
+    let b7 = b6 .before in
+    let b9 = b7 .before .before in
+    ap meaning (c .bad-form2 .ensures) ∙ third _ _ (b9 .if1 .left) (b7 .wide .ensures) (b6 .if2 .left) (b5 .if3 .left) (c .before .before .before .wide2 .ensures) (c .before .if5 .taken)
 
 mul-t12 : tie.Need-mul-t12
 mul-t12 c = search needs

@@ -1,4 +1,4 @@
--- `carried::gather` meets its contract.
+-- `setting_order::gather` meets its contract.
 -- Assumes nothing.
 use Prim.Native.Nat.{_-_}
 use native.Mathlib.Omega.{arith}

@@ -1,4 +1,4 @@
--- `carried::number_in` meets its contract.
+-- `setting_order::number_in` meets its contract.
 -- Assumes nothing.
 use borrow.Author.Needs.{needs}
 use Rattle.setting_order.proofs.number_in.Statement.{statement}

@@ -34,18 +34,28 @@ apply-inverse-requires : tie.Need-apply-inverse-requires
 apply-inverse-requires c κs = search needs
 
 slice-aggregate-gather : tie.Need-slice-aggregate-gather
-slice-aggregate-gather c = sym (array-kept (c .before .before .before .before .before .before .before .before .before .before .args .n) (c .before .before .before .before .before .before .before .number .last .1 .0) (c .before .before .before .before .before .before .before .before .before .before .pre .0) (c .before .before .before .before .before .before .before .number .kept .1 .0) (c .before .before .before .apply-inverse .last .1 .1 .0) (c .before .before .before .apply-inverse .kept .1 .1 .0))
+slice-aggregate-gather c =
+    let b7 = c .before .before .before .before .before .before .before in
+    let b10 = b7 .before .before .before in
+    sym (array-kept (b10 .args .n) (b7 .number .last .1 .0) (b10 .pre .0) (b7 .number .kept .1 .0) (c .before .before .before .apply-inverse .last .1 .1 .0) (c .before .before .before .apply-inverse .kept .1 .1 .0))
 
 gather-requires : tie.Need-gather-requires
-gather-requires c κs = (omega (arith, c .before .before .before .before .before .before .before .before .before .before .before .pre .0, array-kept (c .before .before .before .before .before .before .before .before .before .before .before .args .n) (c .before .before .before .before .before .before .before .before .number .last .1 .0) (c .before .before .before .before .before .before .before .before .before .before .before .pre .0) (c .before .before .before .before .before .before .before .before .number .kept .1 .0) (c .before .before .before .before .apply-inverse .last .1 .1 .0) (c .before .before .before .before .apply-inverse .kept .1 .1 .0)), omega (arith, c .before .before .before .before .before .before .before .before .before .before .before .pre .0))
+gather-requires c κs =
+    let b4 = c .before .before .before .before in
+    let b8 = b4 .before .before .before .before in
+    let b11 = b8 .before .before .before in
+    (omega (arith, b11 .pre .0, array-kept (b11 .args .n) (b8 .number .last .1 .0) (b11 .pre .0) (b8 .number .kept .1 .0) (b4 .apply-inverse .last .1 .1 .0) (b4 .apply-inverse .kept .1 .1 .0)), omega (arith, b11 .pre .0))
 
 returns : tie.Need-returns
 returns c =
-    let s = c .before .before .before .before .before .before .before .before .before .before .before .before in
+    let b5 = c .before .before .before .before .before in
+    let b9 = b5 .before .before .before .before in
+    let b12 = b9 .before .before .before in
+    let s = b12 in
     c .gather .ensures
     ∙ ap (overlay (s .args .order .now) 0)
-    (carried-in (s .args .n) (c .before .before .before .before .before .before .before .before .before .number .last .1 .0) (s .pre .0) (c .before .before .before .before .before .before .before .before .before .number .kept .1 .0) (s .args .bits .now) (replicate (entryWords * 9217) 0) (s .pre .1) (s .pre .2) (s .pre .3)
-    (c .before .before .before .before .before .before .before .before .before .number .ensures) (search needs) (c .before .before .before .before .before .apply-inverse .ensures))
+    (carried-in (s .args .n) (b9 .number .last .1 .0) (s .pre .0) (b9 .number .kept .1 .0) (s .args .bits .now) (replicate (entryWords * 9217) 0) (s .pre .1) (s .pre .2) (s .pre .3)
+    (b9 .number .ensures) (search needs) (b5 .apply-inverse .ensures))
 
 pub order-of-setting-spec : {M : Type 1} → statement M
 order-of-setting-spec =

@@ -35,10 +35,16 @@ slice-reshare-prefix-filled : tie.Need-slice-reshare-prefix-filled
 slice-reshare-prefix-filled c = search needs
 
 slice-aggregate-filled : tie.Need-slice-aggregate-filled
-slice-aggregate-filled c = sym (length-take-le (numbersFor (c .before .before .before .before .before .before .before .before .before .before .args .w)) (c .before .before .before .before .before .before .read-row .last .1 .1 .1 .0) (omega (arith, c .before .before .before .before .before .before .read-row .kept .1 .1 .1 .0, c .before .before .before .before .before .before .before .before .before .before .pre)))
+slice-aggregate-filled c =
+    let b6 = c .before .before .before .before .before .before in
+    let b10 = b6 .before .before .before .before in
+    sym (length-take-le (numbersFor (b10 .args .w)) (b6 .read-row .last .1 .1 .1 .0) (omega (arith, b6 .read-row .kept .1 .1 .1 .0, b10 .pre)))
 
 filled-requires : tie.Need-filled-requires
-filled-requires c κs = (length-take-le (numbersFor (c .before .before .before .before .before .before .before .before .before .before .args .w)) (c .before .before .before .before .before .before .read-row .last .1 .1 .1 .0) (omega (arith, c .before .before .before .before .before .before .read-row .kept .1 .1 .1 .0, c .before .before .before .before .before .before .before .before .before .before .pre)), c .before .before .before .before .before .before .before .before .before .before .pre .0, λ i. rw (row-there _ _ _ (c .before .before .row .given .1) (c .before .before .before .before .before .before .read-row .ensures)) (numbers-fit sevens _ (value-small _) _ _ i))
+filled-requires c κs =
+    let b6 = c .before .before .before .before .before .before in
+    let b10 = b6 .before .before .before .before in
+    (length-take-le (numbersFor (b10 .args .w)) (b6 .read-row .last .1 .1 .1 .0) (omega (arith, b6 .read-row .kept .1 .1 .1 .0, b10 .pre)), b10 .pre .0, λ i. rw (row-there _ _ _ (c .before .before .row .given .1) (b6 .read-row .ensures)) (numbers-fit sevens _ (value-small _) _ _ i))
 
 same-length-2 : tie.Need-same-length-2
 same-length-2 c = search needs
@@ -50,13 +56,19 @@ same-length-3 : tie.Need-same-length-3
 same-length-3 c = search needs
 
 returns-3 : tie.Need-returns-3
-returns-3 c = body-surplus _ _ _ (c .before .before .before .before .before .row .given .1) (c .before .before .before .before .before .before .before .before .before .read-row .ensures) (sym (not-false _ (c .before .if1 .left)) ∙ c .before .before .filled .ensures) (c .if2 .taken)
+returns-3 c =
+    let b5 = c .before .before .before .before .before in
+    let b9 = b5 .before .before .before .before in
+    body-surplus _ _ _ (b5 .row .given .1) (b9 .read-row .ensures) (sym (not-false _ (c .before .if1 .left)) ∙ c .before .before .filled .ensures) (c .if2 .taken)
 
 same-length-4 : tie.Need-same-length-4
 same-length-4 c = search needs
 
 returns-4 : tie.Need-returns-4
-returns-4 c = body-done _ _ _ (c .before .before .before .before .before .row .given .1) (c .before .before .before .before .before .before .before .before .before .read-row .ensures) (sym (not-false _ (c .before .if1 .left)) ∙ c .before .before .filled .ensures) (c .if2 .left)
+returns-4 c =
+    let b5 = c .before .before .before .before .before in
+    let b9 = b5 .before .before .before .before in
+    body-done _ _ _ (b5 .row .given .1) (b9 .read-row .ensures) (sym (not-false _ (c .before .if1 .left)) ∙ c .before .before .filled .ensures) (c .if2 .left)
 
 pub read-body-spec : {M : Type 1} → statement M
 read-body-spec =

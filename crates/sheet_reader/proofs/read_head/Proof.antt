@@ -36,16 +36,33 @@ returns-3 : tie.Need-returns-3
 returns-3 c = places-stop _ _ (reads _ _ _ _ (ap meaning (sym (c .before .before .before .before .before .form .given .1)) ∙ c .before .before .before .before .before .before .before .read-number .ensures)) (c .before .before .before .if1 .left) (c .enum-told2 .given .1) (c .before .before .read-number2 .ensures)
 
 returns-4 : tie.Need-returns-4
-returns-4 c = places-large _ _ (reads _ _ _ _ (ap meaning (sym (c .before .before .before .before .before .before .before .form .given .1)) ∙ c .before .before .before .before .before .before .before .before .before .read-number .ensures)) (c .before .before .before .before .before .if1 .left) (reads _ _ _ _ (ap meaning (sym (c .before .before .places .given .1)) ∙ c .before .before .before .before .read-number2 .ensures)) (c .if2 .taken)
+returns-4 c =
+    let b4 = c .before .before .before .before in
+    let b5 = b4 .before in
+    let b7 = b5 .before .before in
+    let b9 = b7 .before .before in
+    places-large _ _ (reads _ _ _ _ (ap meaning (sym (b7 .form .given .1)) ∙ b9 .read-number .ensures)) (b5 .if1 .left) (reads _ _ _ _ (ap meaning (sym (c .before .before .places .given .1)) ∙ b4 .read-number2 .ensures)) (c .if2 .taken)
 
 switches-requires : tie.Need-switches-requires
 switches-requires c κs = search needs
 
 returns-5 : tie.Need-returns-5
-returns-5 c = room-short _ _ (reads _ _ _ _ (ap meaning (sym (c .before .before .before .before .before .before .before .before .before .form .given .1)) ∙ c .before .before .before .before .before .before .before .before .before .before .before .read-number .ensures)) (c .before .before .before .before .before .before .before .if1 .left) (reads _ _ _ _ (ap meaning (sym (c .before .before .before .before .places .given .1)) ∙ c .before .before .before .before .before .before .read-number2 .ensures)) (c .before .before .if2 .left) (rw (← c .before .switches .ensures .0) (c .if3 .taken))
+returns-5 c =
+    let b4 = c .before .before .before .before in
+    let b6 = b4 .before .before in
+    let b7 = b6 .before in
+    let b9 = b7 .before .before in
+    let b11 = b9 .before .before in
+    room-short _ _ (reads _ _ _ _ (ap meaning (sym (b9 .form .given .1)) ∙ b11 .read-number .ensures)) (b7 .if1 .left) (reads _ _ _ _ (ap meaning (sym (b4 .places .given .1)) ∙ b6 .read-number2 .ensures)) (c .before .before .if2 .left) (rw (← c .before .switches .ensures .0) (c .if3 .taken))
 
 returns-6 : tie.Need-returns-6
-returns-6 c = head-done _ _ (reads _ _ _ _ (ap meaning (sym (c .before .before .before .before .before .before .before .before .before .form .given .1)) ∙ c .before .before .before .before .before .before .before .before .before .before .before .read-number .ensures)) (c .before .before .before .before .before .before .before .if1 .left) (reads _ _ _ _ (ap meaning (sym (c .before .before .before .before .places .given .1)) ∙ c .before .before .before .before .before .before .read-number2 .ensures)) (c .before .before .if2 .left) (rw (← c .before .switches .ensures .0) (c .if3 .left)) refl
+returns-6 c =
+    let b4 = c .before .before .before .before in
+    let b6 = b4 .before .before in
+    let b7 = b6 .before in
+    let b9 = b7 .before .before in
+    let b11 = b9 .before .before in
+    head-done _ _ (reads _ _ _ _ (ap meaning (sym (b9 .form .given .1)) ∙ b11 .read-number .ensures)) (b7 .if1 .left) (reads _ _ _ _ (ap meaning (sym (b4 .places .given .1)) ∙ b6 .read-number2 .ensures)) (c .before .before .if2 .left) (rw (← c .before .switches .ensures .0) (c .if3 .left)) refl
 
 pub read-head-spec : {M : Type 1} → statement M
 read-head-spec =

@@ -27,7 +27,8 @@ put-number-requires c κs = search needs
 
 put-number-requires-2 : tie.Need-put-number-requires-2
 put-number-requires-2 c κs =
-    let s = c .before .before .before .before .before .before .before .before .before .before in
+    let b10 = c .before .before .before .before .before .before .before .before .before .before in
+    let s = b10 in
     let p = c .before .before .before in
     (omega (arith, s .pre), omega (arith, p .put-number .ensures, p .put-number .kept .0, bytes-few 1, s .pre))
 
@@ -35,14 +36,21 @@ array-share-prefix-row : tie.Need-array-share-prefix-row
 array-share-prefix-row c = search needs
 
 slice-aggregate-put-row : tie.Need-slice-aggregate-put-row
-slice-aggregate-put-row c = sym (length-take-le _ _ (omega (arith, c .before .before .before .before .before .before .before .before .before .before .gather .kept, c .before .before .before .before .before .before .before .before .before .before .before .before .before .before .pre)))
+slice-aggregate-put-row c =
+    let b10 = c .before .before .before .before .before .before .before .before .before .before in
+    let b14 = b10 .before .before .before .before in
+    sym (length-take-le _ _ (omega (arith, b10 .gather .kept, b14 .pre)))
 
 put-row-requires : tie.Need-put-row-requires
 put-row-requires c κs =
-    let s = c .before .before .before .before .before .before .before .before .before .before .before .before .before .before .before in
-    let p = c .before .before .before .before .before .before .before .before in
-    let q = c .before .before .before .before in
-    let g = c .before .before .before .before .before .before .before .before .before .before .before in
+    let b4 = c .before .before .before .before in
+    let b8 = b4 .before .before .before .before in
+    let b11 = b8 .before .before .before in
+    let b15 = b11 .before .before .before .before in
+    let s = b15 in
+    let p = b8 in
+    let q = b4 in
+    let g = b11 in
     let bits = s .args .bits .now in
     let k = numbersFor (length bits) in
     let made = row-made k bits (replicate 659 0) (g .gather .ensures) in (
@@ -65,10 +73,14 @@ same-length c = search needs
 
 returns : tie.Need-returns
 returns c =
-    let s = c .before .before .before .before .before .before .before .before .before .before .before .before .before .before .before .before .before .before in
+    let b7 = c .before .before .before .before .before .before .before in
+    let b11 = b7 .before .before .before .before in
+    let b14 = b11 .before .before .before in
+    let b18 = b14 .before .before .before .before in
+    let s = b18 in
     let bits = s .args .bits .now in
-    let made = row-made (numbersFor (length bits)) bits (replicate 659 0) (c .before .before .before .before .before .before .before .before .before .before .before .before .before .before .gather .ensures) in
-    sheet-put (s .args .n) bits made (s .pre .3) (c .before .before .before .before .before .before .before .before .before .before .before .put-number .ensures) (c .before .before .before .before .before .before .before .put-number2 .ensures) (c .before .before .put-row .ensures)
+    let made = row-made (numbersFor (length bits)) bits (replicate 659 0) (b14 .gather .ensures) in
+    sheet-put (s .args .n) bits made (s .pre .3) (b11 .put-number .ensures) (b7 .put-number2 .ensures) (c .before .before .put-row .ensures)
 
 pub make-sheet-spec : {M : Type 1} → statement M
 make-sheet-spec =

@@ -45,7 +45,13 @@ refuse-requires-4 : tie.Need-refuse-requires-4
 refuse-requires-4 c κs = search needs
 
 returns-4 : tie.Need-returns-4
-returns-4 c = write-refused _ _ _ (too-short _ _ _ (c .before .before .before .before .before .before .before .before .before .if1 .left) (c .before .before .before .before .before .before .before .if2 .left ∙ c .before .before .before .before .before .before .before .before .switches .ensures .0) (sym (c .before .before .before .before .before .before .first-bad-bit .ensures) ∙ c .before .before .before .before .before .if3 .left) (omega (arith, c .before .before .before .make-sheet .ensures .place, c .before .if4 .taken))) (c .refuse4 .ensures)
+returns-4 c =
+    let b5 = c .before .before .before .before .before in
+    let b6 = b5 .before in
+    let b7 = b6 .before in
+    let b8 = b7 .before in
+    let b9 = b8 .before in
+    write-refused _ _ _ (too-short _ _ _ (b9 .if1 .left) (b7 .if2 .left ∙ b8 .switches .ensures .0) (sym (b6 .first-bad-bit .ensures) ∙ b5 .if3 .left) (omega (arith, c .before .before .before .make-sheet .ensures .place, c .before .if4 .taken))) (c .refuse4 .ensures)
 
 slice-aggregate-copy-front : tie.Need-slice-aggregate-copy-front
 slice-aggregate-copy-front c = search needs
@@ -60,7 +66,15 @@ same-length : tie.Need-same-length
 same-length c = search needs
 
 returns-5 : tie.Need-returns-5
-returns-5 c = write-accepted _ _ _ (write-passes _ _ _ (c .before .before .before .before .before .before .before .before .before .before .before .before .before .before .if1 .left) (c .before .before .before .before .before .before .before .before .before .before .before .before .if2 .left ∙ c .before .before .before .before .before .before .before .before .before .before .before .before .before .switches .ensures .0) (sym (c .before .before .before .before .before .before .before .before .before .before .before .first-bad-bit .ensures) ∙ c .before .before .before .before .before .before .before .before .before .before .if3 .left) (omega (arith, c .before .before .before .before .before .before .before .before .make-sheet .ensures .place, c .before .before .before .before .before .before .if4 .left))) (c .accept .ensures ∙ ap accepted (put-length (c .before .before .before .before .before .before .before .before .make-sheet .ensures))) (c .before .before .before .copy-front .ensures ∙ ap (overlay _ 0) (put-front (c .before .before .before .before .before .before .before .before .make-sheet .ensures)))
+returns-5 c =
+    let b6 = c .before .before .before .before .before .before in
+    let b8 = b6 .before .before in
+    let b10 = b8 .before .before in
+    let b11 = b10 .before in
+    let b12 = b11 .before in
+    let b13 = b12 .before in
+    let b14 = b13 .before in
+    write-accepted _ _ _ (write-passes _ _ _ (b14 .if1 .left) (b12 .if2 .left ∙ b13 .switches .ensures .0) (sym (b11 .first-bad-bit .ensures) ∙ b10 .if3 .left) (omega (arith, b8 .make-sheet .ensures .place, b6 .if4 .left))) (c .accept .ensures ∙ ap accepted (put-length (b8 .make-sheet .ensures))) (c .before .before .before .copy-front .ensures ∙ ap (overlay _ 0) (put-front (b8 .make-sheet .ensures)))
 
 pub write-sheet-spec : {M : Type 1} → statement M
 write-sheet-spec =

@@ -37,9 +37,14 @@ same-length c = search needs
 
 returns-4 : tie.Need-returns-4
 returns-4 c =
-    let a = c .before .before .before .before .before .before .before .before .before .before .before .before .before .before .args in
-    shuffle-done (a .n) (a .words .now) (a .out .now) (c .before .before .before .before .before .before .before .before .before .before .before .if1 .left) (c .before .before .before .before .before .before .before .before .before .before .if2 .left) (c .before .before .before .before .before .before .before .before .before .if3 .left) (c .accept .ensures)
-    (c .before .before .before .before .before .before .before .number .ensures) (c .before .before .before .exchange .ensures)
+    let b7 = c .before .before .before .before .before .before .before in
+    let b9 = b7 .before .before in
+    let b10 = b9 .before in
+    let b11 = b10 .before in
+    let b14 = b11 .before .before .before in
+    let a = b14 .args in
+    shuffle-done (a .n) (a .words .now) (a .out .now) (b11 .if1 .left) (b10 .if2 .left) (b9 .if3 .left) (c .accept .ensures)
+    (b7 .number .ensures) (c .before .before .before .exchange .ensures)
 
 pub shuffle-spec : {M : Type 1} → statement M
 shuffle-spec =

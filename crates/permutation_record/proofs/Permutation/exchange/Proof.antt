@@ -33,7 +33,12 @@ give-requires-3 : tie.Need-give-requires-3
 give-requires-3 c κs = search needs
 
 returns-3 : tie.Need-returns-3
-returns-3 c = c .give3 .ensures ∙ exchange-second (c .before .before .before .before .before .before .before .before .before .args .self) _ _ (passed-record (c .before .before .before .before .before .before .before .before .before .args .self) (c .before .before .before .before .before .before .before .before .examine .ensures) (c .before .before .before .before .before .before .if1 .left)) (c .before .before .before .before .if2 .left) (c .before .before .if3 .taken) (c .before .refuse2 .ensures)
+returns-3 c =
+    let b4 = c .before .before .before .before in
+    let b6 = b4 .before .before in
+    let b8 = b6 .before .before in
+    let b9 = b8 .before in
+    c .give3 .ensures ∙ exchange-second (b9 .args .self) _ _ (passed-record (b9 .args .self) (b8 .examine .ensures) (b6 .if1 .left)) (b4 .if2 .left) (c .before .before .if3 .taken) (c .before .refuse2 .ensures)
 
 exchanged-record-requires : tie.Need-exchanged-record-requires
 exchanged-record-requires c κs =
@@ -47,9 +52,13 @@ give-requires-4 c κs = search needs
 
 returns-4 : tie.Need-returns-4
 returns-4 c =
-    let p = c .before .before .before .before .before .before .before .before .before .args .self in
-    let w = passed-record p (c .before .before .before .before .before .before .before .before .examine .ensures) (c .before .before .before .before .before .before .if1 .left) in
-    c .give4 .ensures ∙ exchange-done p _ _ w (c .before .before .before .before .if2 .left) (c .before .before .if3 .left) (accepted-record p (c .before .before .before .before .before .before .before .before .examine .ensures) w) (c .before .exchanged-record .ensures)
+    let b4 = c .before .before .before .before in
+    let b6 = b4 .before .before in
+    let b8 = b6 .before .before in
+    let b9 = b8 .before in
+    let p = b9 .args .self in
+    let w = passed-record p (b8 .examine .ensures) (b6 .if1 .left) in
+    c .give4 .ensures ∙ exchange-done p _ _ w (b4 .if2 .left) (c .before .before .if3 .left) (accepted-record p (b8 .examine .ensures) w) (c .before .exchanged-record .ensures)
 
 pub exchange-spec : {M : Type 1} → statement M
 exchange-spec =

@@ -17,11 +17,11 @@ use Rattle.answers.proofs.Buffers.{overlay-front}
 use Rattle.answers.specs.Buffers.{Put}
 use Rattle.answers.proofs.Putting.{put-none}
 use Rattle.cmd_lines.specs.Text.{text, refusalLine}
-use Rattle.cmd_console.specs.declared.Program.{Program}
-use Rattle.cmd_console.specs.declared.Program.the-variants.{Draw, Sheet, Mix, Unmix, Show, Settings}
-use Rattle.cmd_console.specs.Programs.{nameOf, subjectOf}
-use Rattle.cmd_console.specs.Reading.{gotOf}
-use Rattle.cmd_console.specs.Streams.{outputOf, errorOf}
+use Rattle.cmd_words.specs.declared.Program.{Program}
+use Rattle.cmd_words.specs.declared.Program.the-variants.{Draw, Sheet, Mix, Unmix, Show, Settings}
+use Rattle.cmd_words.specs.Programs.{nameOf, subjectOf}
+use Rattle.cmd_words.specs.Reading.{gotOf}
+use Rattle.cmd_words.specs.Streams.{outputOf, errorOf}
 
 -- ---- what was read
 

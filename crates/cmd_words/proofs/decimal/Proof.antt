@@ -1,12 +1,12 @@
--- `cmd_console::decimal` meets its contract.
+-- `cmd_words::decimal` meets its contract.
 -- Assumes nothing.
 use Prim.Native.Nat.{_-_}
 use native.Mathlib.Omega.{arith}
 use lib.ListN.{length}
-use Rattle.cmd_console.proofs.Digits.{Reading, none, starts, ends, below, above, more}
+use Rattle.cmd_words.proofs.Digits.{Reading, none, starts, ends, below, above, more}
 use borrow.Author.Needs.{needs}
-use Rattle.cmd_console.proofs.decimal.Statement.{statement}
-use Rattle.cmd_console.proofs.decimal.Tie as tie
+use Rattle.cmd_words.proofs.decimal.Statement.{statement}
+use Rattle.cmd_words.proofs.decimal.Tie as tie
 
 abbrev Inv-loop : tie.InvT-loop
 Inv-loop text v₀ i₀ v i = Reading text v i
@@ -48,7 +48,11 @@ loop-less : tie.Need-loop-less Inv-loop μ-loop
 loop-less c = search needs
 
 loop-again : tie.Need-loop-again Inv-loop μ-loop
-loop-again c = more (c .before .before .before .before .before .before .before .before .before .args .text .now) (c .before .before .before .before .before .before .loop .inv) (c .before .before .before .before .before .loop-test .taken) (c .before .before .before .wide .ensures) (c .before .before .if2 .left) (c .before .if3 .left) (c .capped .ensures)
+loop-again c =
+    let b5 = c .before .before .before .before .before in
+    let b6 = b5 .before in
+    let b9 = b6 .before .before .before in
+    more (b9 .args .text .now) (b6 .loop .inv) (b5 .loop-test .taken) (c .before .before .before .wide .ensures) (c .before .before .if2 .left) (c .before .if3 .left) (c .capped .ensures)
 
 returns-4 : tie.Need-returns-4 Inv-loop μ-loop
 returns-4 c = ends (c .before .before .before .before .args .text .now) (c .before .loop .inv) (c .loop-test .left)

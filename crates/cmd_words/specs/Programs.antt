@@ -3,8 +3,8 @@
 use mathlib.Core.List.{List, _++_}
 use Prim.Native.Nat.{ℕ}
 use Rattle.cmd_lines.specs.Text.{text}
-use Rattle.cmd_console.specs.declared.Program.{Program}
-use Rattle.cmd_console.specs.declared.Program.the-variants.{Draw, Sheet, Mix, Unmix, Show, Settings}
+use Rattle.cmd_words.specs.declared.Program.{Program}
+use Rattle.cmd_words.specs.declared.Program.the-variants.{Draw, Sheet, Mix, Unmix, Show, Settings}
 
 abbrev pub nameOf : Program → List ℕ
 nameOf Draw = text "draw"

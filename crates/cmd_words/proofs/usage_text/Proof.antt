@@ -1,9 +1,8 @@
--- `cmd_console::put_name` meets its contract.
+-- `cmd_words::usage_text` meets its contract.
 -- Assumes nothing.
-use native.Mathlib.Omega.{arith}
 use borrow.Author.Needs.{needs}
-use Rattle.cmd_console.proofs.put_name.Statement.{statement}
-use Rattle.cmd_console.proofs.put_name.Tie as tie
+use Rattle.cmd_words.proofs.usage_text.Statement.{statement}
+use Rattle.cmd_words.proofs.usage_text.Tie as tie
 
 enum-told : tie.Need-enum-told
 enum-told c = search needs
@@ -59,44 +58,26 @@ slice-aggregate-put-text-6 c = search needs
 put-text-requires-6 : tie.Need-put-text-requires-6
 put-text-requires-6 c κs = search needs
 
-same-length : tie.Need-same-length
-same-length c = search needs
-
 returns : tie.Need-returns
-returns c = (rw (c .before .before .before .before .before .enum-told .given .1) (c .before .before .put-text .ensures), omega (arith, c .before .before .put-text .ensures .place))
-
-same-length-2 : tie.Need-same-length-2
-same-length-2 c = search needs
+returns c = rw (c .before .before .before .enum-told .given .1) (c .put-text .ensures)
 
 returns-2 : tie.Need-returns-2
-returns-2 c = (rw (c .before .before .before .before .before .enum-told2 .given .1) (c .before .before .put-text2 .ensures), omega (arith, c .before .before .put-text2 .ensures .place))
-
-same-length-3 : tie.Need-same-length-3
-same-length-3 c = search needs
+returns-2 c = rw (c .before .before .before .enum-told2 .given .1) (c .put-text2 .ensures)
 
 returns-3 : tie.Need-returns-3
-returns-3 c = (rw (c .before .before .before .before .before .enum-told3 .given .1) (c .before .before .put-text3 .ensures), omega (arith, c .before .before .put-text3 .ensures .place))
-
-same-length-4 : tie.Need-same-length-4
-same-length-4 c = search needs
+returns-3 c = rw (c .before .before .before .enum-told3 .given .1) (c .put-text3 .ensures)
 
 returns-4 : tie.Need-returns-4
-returns-4 c = (rw (c .before .before .before .before .before .enum-told4 .given .1) (c .before .before .put-text4 .ensures), omega (arith, c .before .before .put-text4 .ensures .place))
-
-same-length-5 : tie.Need-same-length-5
-same-length-5 c = search needs
+returns-4 c = rw (c .before .before .before .enum-told4 .given .1) (c .put-text4 .ensures)
 
 returns-5 : tie.Need-returns-5
-returns-5 c = (rw (c .before .before .before .before .before .enum-told5 .given .1) (c .before .before .put-text5 .ensures), omega (arith, c .before .before .put-text5 .ensures .place))
-
-same-length-6 : tie.Need-same-length-6
-same-length-6 c = search needs
+returns-5 c = rw (c .before .before .before .enum-told5 .given .1) (c .put-text5 .ensures)
 
 returns-6 : tie.Need-returns-6
-returns-6 c = (rw (c .before .before .before .before .before .enum-told6 .given .1) (c .before .before .put-text6 .ensures), omega (arith, c .before .before .put-text6 .ensures .place))
+returns-6 c = rw (c .before .before .before .enum-told6 .given .1) (c .put-text6 .ensures)
 
-pub put-name-spec : {M : Type 1} → statement M
-put-name-spec =
+pub usage-text-spec : {M : Type 1} → statement M
+usage-text-spec =
     tie.close
     (tie.spec
     enum-told
@@ -117,15 +98,9 @@ put-name-spec =
     enum-told-6
     slice-aggregate-put-text-6
     put-text-requires-6
-    same-length
     returns
-    same-length-2
     returns-2
-    same-length-3
     returns-3
-    same-length-4
     returns-4
-    same-length-5
     returns-5
-    same-length-6
     returns-6)

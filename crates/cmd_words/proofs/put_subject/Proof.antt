@@ -1,11 +1,11 @@
--- `cmd_console::put_subject` meets its contract.
+-- `cmd_words::put_subject` meets its contract.
 -- Assumes nothing.
 use Rattle.cmd_lines.specs.Text.{text}
 use Rattle.cmd_lines.proofs.Lines.{put-three}
-use Rattle.cmd_console.proofs.Streams.{subject-room}
+use Rattle.cmd_words.proofs.Streams.{subject-room}
 use borrow.Author.Needs.{needs}
-use Rattle.cmd_console.proofs.put_subject.Statement.{statement}
-use Rattle.cmd_console.proofs.put_subject.Tie as tie
+use Rattle.cmd_words.proofs.put_subject.Statement.{statement}
+use Rattle.cmd_words.proofs.put_subject.Tie as tie
 
 put-name-requires : tie.Need-put-name-requires
 put-name-requires c κs = search needs
@@ -23,7 +23,11 @@ same-length : tie.Need-same-length
 same-length c = search needs
 
 returns : tie.Need-returns
-returns c = let s = c .before .before .before .before .before .before .before .before .before .before .before .before .before .before .before in put-three (text ": ") (s .args .what .now) (c .before .before .before .before .before .before .before .before .before .before .before .put-name .ensures .0) (subject-room (s .args .program) (s .args .what .now) (s .pre)) (c .before .before .before .before .before .before .put-text .ensures) (c .before .before .put-text2 .ensures)
+returns c =
+    let b6 = c .before .before .before .before .before .before in
+    let b11 = b6 .before .before .before .before .before in
+    let b15 = b11 .before .before .before .before in
+    let s = b15 in put-three (text ": ") (s .args .what .now) (b11 .put-name .ensures .0) (subject-room (s .args .program) (s .args .what .now) (s .pre)) (b6 .put-text .ensures) (c .before .before .put-text2 .ensures)
 
 pub put-subject-spec : {M : Type 1} → statement M
 put-subject-spec =
