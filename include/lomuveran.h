@@ -11,7 +11,7 @@
  * Stack: at 1,024 places the calls need at most 12 KB of it (control_bits 11.3, permutation_combine 10.6, the other calls on
  * permutations 6.5, write_sheet 4.8, read_sheet 3.5, apply_inverse 3.2, apply 2.7, the others 2.1 or less), as bench/stack reads from
  * the object code. For a thread allow 20 KB, which holds the C library's own needs too: its first memcpy, where it is linked
- * dynamically, takes some KB more (permutation_combine ran in 18 KB and not in 17, the others that are named here in 16). No heap. */
+ * dynamically, takes some KB more (permutation_combine ran in 18 KB and not in 17, control_bits, apply, write_sheet, inverse in 16). No heap. */
 #ifndef LOMUVERAN_H
 #define LOMUVERAN_H
 
