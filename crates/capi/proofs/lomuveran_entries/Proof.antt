@@ -1,7 +1,7 @@
 -- Assumes nothing.
 use mathlib.Core.Path.{_∙_}
 use Rattle.counts.specs.Counts.{E}
-use Rattle.capi.proofs.Crossing.{count-refused, count-given}
+use Rattle.capi_values.proofs.Crossing.{count-refused, count-given}
 use borrow.Author.Needs.{needs}
 use Rattle.capi.proofs.lomuveran_entries.Statement.{statement}
 use Rattle.capi.proofs.lomuveran_entries.Tie as tie

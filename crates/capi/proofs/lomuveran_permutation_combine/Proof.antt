@@ -2,8 +2,8 @@
 use mathlib.Core.Path.{ap, _∙_}
 use Rattle.permutation_record.specs.declared.Permutation.{Permutation}
 use Rattle.permutation_record.specs.Records.{combineCall}
-use Rattle.capi.specs.Crossing.{recordIn}
-use Rattle.capi.proofs.Crossing.{reply-crosses}
+use Rattle.capi_values.specs.Crossing.{recordIn}
+use Rattle.capi_values.proofs.Crossing.{reply-crosses}
 use borrow.Author.Needs.{needs}
 use Rattle.capi.proofs.lomuveran_permutation_combine.Statement.{statement}
 use Rattle.capi.proofs.lomuveran_permutation_combine.Tie as tie

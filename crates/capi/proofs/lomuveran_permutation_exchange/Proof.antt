@@ -2,7 +2,7 @@
 use mathlib.Core.Path.{ap, _∙_}
 use Rattle.permutation_record.specs.declared.Permutation.{Permutation}
 use Rattle.permutation_record.specs.Records.{exchangeCall}
-use Rattle.capi.proofs.Crossing.{reply-crosses}
+use Rattle.capi_values.proofs.Crossing.{reply-crosses}
 use borrow.Author.Needs.{needs}
 use Rattle.capi.proofs.lomuveran_permutation_exchange.Statement.{statement}
 use Rattle.capi.proofs.lomuveran_permutation_exchange.Tie as tie

@@ -1,5 +1,5 @@
 -- Assumes nothing.
-use Rattle.capi.proofs.Crossing.{reply-crosses}
+use Rattle.capi_values.proofs.Crossing.{reply-crosses}
 use borrow.Author.Needs.{needs}
 use Rattle.capi.proofs.lomuveran_permutation_identity.Statement.{statement}
 use Rattle.capi.proofs.lomuveran_permutation_identity.Tie as tie

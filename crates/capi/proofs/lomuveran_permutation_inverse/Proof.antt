@@ -1,7 +1,7 @@
 -- Assumes nothing.
 use mathlib.Core.Path.{ap, _∙_}
 use Rattle.permutation_record.specs.Records.{inverseCall}
-use Rattle.capi.proofs.Crossing.{reply-crosses}
+use Rattle.capi_values.proofs.Crossing.{reply-crosses}
 use borrow.Author.Needs.{needs}
 use Rattle.capi.proofs.lomuveran_permutation_inverse.Statement.{statement}
 use Rattle.capi.proofs.lomuveran_permutation_inverse.Tie as tie

@@ -1,7 +1,7 @@
 -- Assumes nothing.
 use mathlib.Core.Path.{_∙_}
 use Rattle.counts.specs.Counts.{W}
-use Rattle.capi.proofs.Crossing.{count-refused, count-given}
+use Rattle.capi_values.proofs.Crossing.{count-refused, count-given}
 use borrow.Author.Needs.{needs}
 use Rattle.capi.proofs.lomuveran_switches.Statement.{statement}
 use Rattle.capi.proofs.lomuveran_switches.Tie as tie

@@ -1,9 +1,9 @@
 -- Assumes nothing.
-use Rattle.capi.proofs.Crossing.{number-refused, number-given}
+use Rattle.capi_values.proofs.Crossing.{number-refused, number-given}
 use mathlib.Core.Path.{ap, _∙_}
 use borrow.Author.Needs.{needs}
-use Rattle.capi.proofs.tell_number.Statement.{statement}
-use Rattle.capi.proofs.tell_number.Tie as tie
+use Rattle.capi_values.proofs.tell_number.Statement.{statement}
+use Rattle.capi_values.proofs.tell_number.Tie as tie
 
 answer-requires : tie.Need-answer-requires
 answer-requires c κs = search needs

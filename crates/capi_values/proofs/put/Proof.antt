@@ -4,9 +4,9 @@ use mathlib.Core.Path.{refl}
 use native.Mathlib.Omega.{arith}
 use Prim.Native.Nat.{_-_}
 use lib.ListN.{getD}
-use Rattle.capi.proofs.Crossing.{Filling, filling-starts, filling-more, filled}
-use Rattle.capi.proofs.put.Statement.{statement}
-use Rattle.capi.proofs.put.Tie as tie
+use Rattle.capi_values.proofs.Crossing.{Filling, filling-starts, filling-more, filled}
+use Rattle.capi_values.proofs.put.Statement.{statement}
+use Rattle.capi_values.proofs.put.Tie as tie
 
 abbrev Inv-loop : tie.InvT-loop
 Inv-loop entries₀ e n i₀ entries i = Filling (λ j. getD e j 0) entries₀ entries i

@@ -2,8 +2,8 @@
 use mathlib.Core.Path.{sym}
 use lib.ListN.{List·getD-eq-default}
 use borrow.Author.Needs.{needs}
-use Rattle.capi.proofs.at.Statement.{statement}
-use Rattle.capi.proofs.at.Tie as tie
+use Rattle.capi_values.proofs.at.Statement.{statement}
+use Rattle.capi_values.proofs.at.Tie as tie
 
 mul-result : tie.Need-mul-result
 mul-result c = search needs

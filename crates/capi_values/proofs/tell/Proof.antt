@@ -1,7 +1,7 @@
 -- Assumes nothing.
 use borrow.Author.Needs.{needs}
-use Rattle.capi.proofs.tell.Statement.{statement}
-use Rattle.capi.proofs.tell.Tie as tie
+use Rattle.capi_values.proofs.tell.Statement.{statement}
+use Rattle.capi_values.proofs.tell.Tie as tie
 
 returns : tie.Need-returns
 returns c = search needs

@@ -13,8 +13,8 @@ use Rattle.permutation_record.specs.declared.Reply.{Reply}
 use Rattle.permutation.proofs.Tables.{length-tabulate, tabulate-at, is-tabulate}
 use Rattle.permutation_entries.proofs.Entries.{is-padded-of}
 use Rattle.permutation_record.proofs.Records.{is-record-of}
-use Rattle.capi.specs.Crossing.{recordIn, spread, lent}
-use Rattle.capi.proofs.Crossing.{lent-accepted}
+use Rattle.capi_values.specs.Crossing.{recordIn, spread, lent}
+use Rattle.capi_values.proofs.Crossing.{lent-accepted}
 
 module _ (es : List ℕ) where
   abbrev entry : ℕ → ℕ

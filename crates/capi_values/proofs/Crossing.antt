@@ -18,7 +18,7 @@ use Rattle.numbers.specs.declared.ReadNumber.the-variants.{Number, Refused}
 use Rattle.permutation.specs.Permutations.{tabulate}
 use Rattle.permutation_record.specs.declared.Reply.{Reply}
 use Rattle.permutation.proofs.Tables.{tabulate-more}
-use Rattle.capi.specs.Crossing.{counted, recordIn, spread, lent}
+use Rattle.capi_values.specs.Crossing.{counted, recordIn, spread, lent}
 
 -- ---- answers
 

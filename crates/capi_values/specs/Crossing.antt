@@ -12,8 +12,8 @@ use Rattle.numbers.specs.Numbers.{NumberAnswer}
 use Rattle.permutation.specs.Permutations.{tabulate}
 use Rattle.permutation_record.specs.declared.Permutation.{Permutation}
 use Rattle.permutation_record.specs.declared.Reply.{Reply}
-use Rattle.capi.specs.declared.CAnswer.{CAnswer}
-use Rattle.capi.specs.declared.CNumber.{CNumber}
+use Rattle.capi_values.specs.declared.CAnswer.{CAnswer}
+use Rattle.capi_values.specs.declared.CNumber.{CNumber}
 
 -- ---- answers
 

@@ -4,9 +4,9 @@ use mathlib.Core.Path.{refl}
 use native.Mathlib.Omega.{arith}
 use Prim.Native.Nat.{_-_}
 use lib.ListN.{getD}
-use Rattle.capi.proofs.Crossing.{Filling, filling-starts, filling-more, record-filled}
-use Rattle.capi.proofs.record_of.Statement.{statement}
-use Rattle.capi.proofs.record_of.Tie as tie
+use Rattle.capi_values.proofs.Crossing.{Filling, filling-starts, filling-more, record-filled}
+use Rattle.capi_values.proofs.record_of.Statement.{statement}
+use Rattle.capi_values.proofs.record_of.Tie as tie
 
 abbrev Inv-loop : tie.InvT-loop
 Inv-loop entries e₀ i₀ e i = Filling (λ j. getD entries j 0) e₀ e i

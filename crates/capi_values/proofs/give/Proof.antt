@@ -1,8 +1,8 @@
 -- Assumes nothing.
-use Rattle.capi.proofs.Crossing.{lent-refused, lent-accepted}
+use Rattle.capi_values.proofs.Crossing.{lent-refused, lent-accepted}
 use borrow.Author.Needs.{needs}
-use Rattle.capi.proofs.give.Statement.{statement}
-use Rattle.capi.proofs.give.Tie as tie
+use Rattle.capi_values.proofs.give.Statement.{statement}
+use Rattle.capi_values.proofs.give.Tie as tie
 
 tell-requires : tie.Need-tell-requires
 tell-requires c κs = search needs

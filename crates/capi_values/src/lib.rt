@@ -1,0 +1,106 @@
+// What crosses between the calls for C (crate capi) and the crates that do the work: answers, the number reader's answer and
+// the entries of a permutation.
+use numbers::ReadNumber;
+use permutation_record::Permutation;
+use permutation_record::Reply;
+ghost use mathlib.Core.Path.{_≡_};
+ghost use lib.ListN.{length, getD};
+ghost use Rattle.answers.specs.Outcomes.{outcome};
+ghost use Rattle.numbers.specs.Reading.{meaning};
+ghost use Rattle.capi_values.specs.Crossing.{answerIn, numberIn, recordIn, spread, lent};
+
+// An answer as C lays it out.
+#[repr(C)]
+pub struct CAnswer {
+    pub number: usize,
+    pub place: usize,
+    pub count: usize,
+}
+
+pub fn tell(a: answers::Answer) -> CAnswer
+    ensures { λ r. ⌜ answerIn r ≡ a ⌝ }
+{
+    CAnswer {
+        number: a.number,
+        place: a.place,
+        count: a.count,
+    }
+}
+
+// The answer of the number reader, with the two numbers that stand beside it.
+#[repr(C)]
+pub struct CNumber {
+    pub answer: CAnswer,
+    pub value: usize,
+    pub next: usize,
+}
+
+pub fn tell_number(r: ReadNumber) -> CNumber
+    ensures { λ c. ⌜ numberIn c ≡ meaning r ⌝ }
+{
+    let answer = tell(numbers::answer(r));
+    let ReadNumber::Number(value, next) = r else {
+        return CNumber {
+            answer,
+            value: 0,
+            next: 0,
+        };
+    };
+    CNumber {
+        answer,
+        value,
+        next,
+    }
+}
+
+// ---- permutations: the record is its entries as lent
+
+// Entry i, or 0 past the end.
+fn at(entries: &[u16], i: usize) -> u16
+    ensures { λ r. ⌜ r ≡ getD (now (entries .entry)) i 0 ⌝ }
+{
+    if i < entries.len() {
+        return entries[i];
+    }
+    0
+}
+
+// The record of lent entries. Where more than 1,024 are lent the calls refuse it by its length.
+pub fn record_of(entries: &[u16]) -> Permutation
+    ensures { λ r. ⌜ r ≡ recordIn (now (entries .entry)) ⌝ }
+{
+    let mut e = [0u16; 1024];
+    let mut i = 0;
+    while i < 1024 {
+        e[i] = at(entries, i);
+        i += 1;
+    }
+    Permutation {
+        length: entries.len(),
+        entries: e,
+    }
+}
+
+// A record's entries over all the lent ones.
+fn put(p: Permutation, entries: &mut [u16])
+    ensures { λ _. ⌜ now (entries .exit) ≡ spread p (length (now (entries .entry))) ⌝ }
+{
+    let e = p.entries;
+    let n = entries.len();
+    let mut i = 0;
+    while i < n {
+        entries[i] = at(&e, i);
+        i += 1;
+    }
+}
+
+pub fn give(reply: Reply, entries: &mut [u16]) -> CAnswer
+    ensures { λ r. ⌜ outcome (answerIn r) (now (entries .exit)) ≡ lent reply (now (entries .entry)) ⌝ }
+{
+    let answer = reply.answer;
+    if answer.number != 0 { // nothing is written
+        return tell(answer);
+    }
+    put(reply.permutation, entries);
+    tell(answer)
+}
