@@ -51,16 +51,6 @@ pub(crate) fn mix(
     mix_part(n, width, blocks, bits, w, back)
 }
 
-pub(crate) fn write_sheet(n: usize, bits: &[u8], w: usize, sheet: &mut [u8]) -> Answer {
-    let count = least(w, bits.len());
-    sheet_writer::write_sheet(n, &bits[..count], sheet)
-}
-
-pub(crate) fn read_sheet(sheet: &[u8], end: usize, bits: &mut [u8]) -> Answer {
-    let count = least(end, sheet.len());
-    sheet_reader::read_sheet(&sheet[..count], bits)
-}
-
 pub(crate) fn draw(n: usize, words: &[u32], order: &mut [u16]) -> Answer {
     let places = least(n, words.len());
     shuffle::shuffle(n, &words[..places], order)

@@ -1,5 +1,5 @@
-// Runs set, and mix, return and the sheets on what it leaves, against a second setter, a direct scatter of the blocks, a
-// plainly written log and a plain run of the log. Prints how much was compared and how much of it was equal.
+// Runs set, and mix and return on what it leaves, against a second setter, a direct scatter of the blocks, a plainly written
+// log and a plain run of the log. Prints how much was compared and how much of it was equal.
 mod calls;
 mod nets;
 mod orders;
@@ -66,15 +66,6 @@ fn carry_widths(
     carry(t3, order, n, bits, w, 256)
 }
 
-// The sheet reads back as the setting; what stands behind the bits stays.
-fn sheet(t: Tally, n: usize, bits: &[u8; counts::MOST_SWITCHES], w: usize, old: u8) -> Tally {
-    let mut s = [0u8; 1400];
-    let mut back = [old; counts::MOST_SWITCHES];
-    let x = calls::write_sheet(n, bits, w, &mut s);
-    let y = calls::read_sheet(&s, x.count, &mut back);
-    same_bits(accepted(t, y, n), &back, bits)
-}
-
 // The log of a set, run from the order and bits that are 0, gives the bits.
 fn rerun(
     t: Tally,
@@ -125,7 +116,7 @@ fn check_order(t: Tally, order: &[u16; 1024], n: usize, nets: &[usize; 12288], o
     let w = nets::of(nets, 0, nets::BITS);
     let mut bits = [old; counts::MOST_SWITCHES];
     let t1 = set(t, order, n, nets, &mut bits, old);
-    carry_widths(sheet(t1, n, &bits, w, old), order, n, &bits, w)
+    carry_widths(t1, order, n, &bits, w)
 }
 
 // ---- orders and settings

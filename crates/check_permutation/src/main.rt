@@ -122,14 +122,14 @@ fn check_exchange(t: Tally, e: [u16; 1024], n: usize, i: usize, j: usize) -> Tal
 fn check_shuffle(t: Tally, n: usize, seed: u32) -> Tally
     requires { ⌜ n ≤ 1024 ⌝ }
 {
-    let words = plain::words(seed);
+    let words = tally::words(seed);
     let mut out = [7u16; 1024];
     let a = shuffle::shuffle(n, &words[..n], &mut out);
     let right = plain::shuffle(&words, n);
     let t1 = tally::tallied(t, plain::alike(&out, &right));
     let t2 = tally::tallied(t1, plain::answered(a, 0, 0, n));
     let e = plain::front(&right, n);
-    let other = plain::words(tally::next(seed));
+    let other = tally::words(tally::next(seed));
     let s = plain::shuffle(&other, n);
     check_calls(check_list(t2, e, n), e, plain::front(&s, n), n)
 }

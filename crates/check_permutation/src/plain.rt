@@ -207,19 +207,6 @@ pub(crate) fn front(e: &[u16; 1024], n: usize) -> [u16; 1024]
     out
 }
 
-// A pseudo-random sequence.
-pub(crate) fn words(seed: u32) -> [u32; 1024] {
-    let mut out = [0u32; 1024];
-    let mut x = seed;
-    let mut i = 0;
-    while i < 1024 {
-        x = tally::next(x);
-        out[i] = x;
-        i += 1;
-    }
-    out
-}
-
 // 0 to n - 1, then 7s; then each place exchanged with one that is not before it.
 pub(crate) fn shuffle(words: &[u32; 1024], n: usize) -> [u16; 1024]
     requires { ⌜ n ≤ 1024 ⌝ }

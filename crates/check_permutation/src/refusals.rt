@@ -64,7 +64,7 @@ fn of_seconds(t: Tally) -> Tally {
 
 // A shuffle of n places from so many words into `room` entries: the answer, and nothing written.
 fn of_shuffle(t: Tally, n: usize, count: usize, room: usize, number: usize) -> Tally {
-    let words = plain::words(77);
+    let words = tally::words(77);
     let mut out = [7u16; 1024];
     if 1024 < count {
         return t;

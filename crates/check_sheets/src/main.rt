@@ -1,5 +1,6 @@
-// Runs the number reader, the writer and the reader of sheets against a second, plainly written computation, and prints
-// how much was compared and how much of it was equal.
+// Runs the number reader, the writer and the reader of sheets against a second, plainly written computation, on drawn bits and
+// on the settings of drawn orders, and prints how much was compared and how much of it was equal.
+mod canonical;
 mod cases;
 mod part;
 mod plain;
@@ -121,7 +122,7 @@ fn reads(t: Tally, s: &[u8], end: usize, w: usize) -> Tally
 }
 
 // The bits come back, and what stands beyond them stays.
-fn back(t: Tally, s: &[u8], end: usize, bits: &[u8], w: usize) -> Tally
+pub(crate) fn back(t: Tally, s: &[u8], end: usize, bits: &[u8], w: usize) -> Tally
     requires { ⌜ end ≤ length (now s) ⌝ }
 {
     let mut a = [255u8; 9300];
@@ -234,4 +235,5 @@ fn main() {
     tally::print(b"numbers", pairs());
     tally::print(b"short sheets", shorts());
     tally::print(b"round trips", trips());
+    tally::print(b"round trips of canonical settings", canonical::trips());
 }

@@ -1,8 +1,11 @@
 -- Counting comparisons. Assumes nothing: these are definitions.
+use mathlib.Core.Path.{_≡_}
+use mathlib.Core.List.{List}
 use mathlib.Core.Bool.{Bool, true, false, cond}
-use Prim.Native.Nat.{ℕ, _+_, _*_, _^_, _/_, _%_}
+use Prim.Native.Nat.{ℕ, zero, suc, _+_, _*_, _^_, _/_, _%_, _<_}
 use lib.Bits.{bitXor}
 use lib.Dec.{ltb}
+use lib.ListN.{length, getD}
 use Rattle.tally.specs.declared.Tally.{Tally}
 
 abbrev pub nothing : Tally
@@ -29,3 +32,13 @@ scrambled x =
     let a = bitXor x ((x * 2 ^ 13) % 2 ^ 32) in
     let b = bitXor a (a / 2 ^ 17) in
     bitXor b ((b * 2 ^ 5) % 2 ^ 32)
+
+-- what i steps of that sequence make of x
+unfoldable pub after : ℕ → ℕ → ℕ
+after zero x = x
+after (suc i) x = scrambled (after i x)
+
+-- n numbers behind x
+pub record Sequence (x n : ℕ) (words : List ℕ) : Type 0 where
+  pub many : length words ≡ n
+  pub each : (i : ℕ) → i < n → getD words i 0 ≡ after (i + 1) x

@@ -3,7 +3,7 @@ use answers::Answer;
 ghost use mathlib.Core.Path.{_≡_};
 ghost use mathlib.Core.Bool.{true};
 ghost use Prim.Native.Nat.{_+_, _^_, _%_, _≤_};
-ghost use Rattle.tally.specs.Tallies.{nothing, one, counted, blockBytes, random, scrambled};
+ghost use Rattle.tally.specs.Tallies.{nothing, one, counted, blockBytes, random, scrambled, Sequence};
 
 // How many outcomes were compared, and how many of them were equal.
 pub struct Tally {
@@ -103,6 +103,21 @@ pub fn next(x: u32) -> u32
     let a = x ^ (x << 13);
     let b = a ^ (a >> 17);
     b ^ (b << 5)
+}
+
+// The second sequence behind a seed.
+pub fn words(seed: u32) -> [u32; 1024]
+    ensures { λ r. ⌜ Sequence seed 1024 r ⌝ }
+{
+    let mut out = [0u32; 1024];
+    let mut x = seed;
+    let mut i = 0;
+    while i < 1024 {
+        x = next(x);
+        out[i] = x;
+        i += 1;
+    }
+    out
 }
 
 // A line with both numbers. What is written out cannot be promised.
