@@ -23,8 +23,8 @@ use Rattle.steps.proofs.Running.{run-is-fold}
 use Rattle.steps.proofs.Sweeps.{length-each, each-at}
 use Rattle.steps.proofs.Lengths.{length-entries}
 use Rattle.control_sweeps.specs.Tables.{Below}
-use Rattle.control_steps.specs.declared.Walk.{Walk}
-use Rattle.control_steps.specs.Walks.{state, Went}
+use Rattle.control_walk.specs.declared.Walk.{Walk}
+use Rattle.control_walk.specs.Walks.{state, Went}
 use Rattle.control_network.specs.Inner.{Room, Tidy, Lengthens}
 use Rattle.control.specs.Inner.{Sets}
 

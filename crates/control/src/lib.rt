@@ -50,7 +50,7 @@ fn set_table(
         0,
         n,
         log,
-        control_steps::Walk {
+        control_walk::Walk {
             f: 0,
             c: 0,
             g: 0,

@@ -20,8 +20,8 @@ use Rattle.steps.specs.State.{State, Subnetwork, outputBit}
 use Rattle.steps.specs.Steps.{step4, step5, step6}
 use Rattle.steps.specs.Sequence.{rounds, inputEntries, entriesOf}
 use Rattle.steps.specs.Fold.{roundsOf, inputSteps, setNet}
-use Rattle.control_steps.specs.declared.Walk.{Walk}
-use Rattle.control_steps.specs.Walks.{within, Went}
+use Rattle.control_walk.specs.declared.Walk.{Walk}
+use Rattle.control_walk.specs.Walks.{within, Went}
 use Rattle.control_network.proofs.Bounds.{further}
 
 pub went-none : (w : Walk) (l : List ℕ) → Went [] 0 w w l l

@@ -23,7 +23,7 @@ use Rattle.steps.specs.Fold.{roundsOf, inputSteps, setNet}
 use Rattle.steps.proofs.Places.{Unlike}
 use Rattle.steps.proofs.Sweeps.{length-each, each-off, each-at, turned, SidesUnlike, length-act, act-off, act-at}
 use Rattle.control_sweeps.specs.Tables.{Within}
-use Rattle.control_steps.specs.Walks.{within}
+use Rattle.control_walk.specs.Walks.{within}
 use Rattle.control_network.specs.Inner.{Lengthens}
 use Rattle.control_network.proofs.Bounds.{further}
 

@@ -17,8 +17,8 @@ use Rattle.steps.specs.Sequence.{inputEntries, entriesOf}
 use Rattle.steps.specs.Fold.{inputSteps, setNet}
 use Rattle.steps.proofs.Lengths.{E-parts, length-entries}
 use Rattle.control_sweeps.specs.Tables.{Below}
-use Rattle.control_steps.specs.declared.Walk.{Walk}
-use Rattle.control_steps.specs.Walks.{state, within, Went}
+use Rattle.control_walk.specs.declared.Walk.{Walk}
+use Rattle.control_walk.specs.Walks.{state, within, Went}
 use Rattle.control_network.specs.Inner.{Room, Tidy, Lengthens}
 use Rattle.control_network.proofs.Bounds.{tidy-more, tidy5, tidy-input, tidy-net}
 use Rattle.control_network.proofs.Trails.{Halfway, halfway-enter, halfway-kept, halfway-top, halfway-bottom}

@@ -7,7 +7,7 @@ use Rattle.counts.specs.Counts.{up, W, E}
 use Rattle.network.specs.Log.{entryWords}
 use Rattle.steps.specs.State.{State}
 use Rattle.control_sweeps.specs.Tables.{Below}
-use Rattle.control_steps.specs.declared.Walk.{Walk}
+use Rattle.control_walk.specs.declared.Walk.{Walk}
 
 -- the tables, the bits and the log have room for the network of m places from o
 pub record Room (o m : ℕ) (w : Walk) (values trails marks bits log : List ℕ) : Type 0 where

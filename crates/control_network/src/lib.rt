@@ -12,7 +12,7 @@ ghost use Rattle.network.specs.Log.{entry, entryWords};
 ghost use Rattle.steps.specs.Steps.{step5};
 ghost use Rattle.steps.specs.Sequence.{rounds, inputEntries, entriesOf};
 ghost use Rattle.steps.specs.Fold.{roundsOf, inputSteps, setNet};
-ghost use Rattle.control_steps.specs.Walks.{state, within, Went};
+ghost use Rattle.control_walk.specs.Walks.{state, within, Went};
 ghost use Rattle.control_network.specs.Inner.{Room, Tidy, Lengthens};
 
 // Steps 1, 2, 3.
@@ -23,8 +23,8 @@ fn round(
     o: usize,
     m: usize,
     log: &mut [u16],
-    w: control_steps::Walk,
-) -> control_steps::Walk
+    w: control_walk::Walk,
+) -> control_walk::Walk
     requires { ⌜ (2 ≤ m) × (o + m ≤ 1024) × (o + m ≤ length (now vals)) × (up m ≤ length (now marks))
         × (w .b + up m ≤ length (now bits)) × (entryWords * (w .e + 3) ≤ length (now log))
         × Tidy 32768 (state (now vals) [] (now marks) (now bits) w) ⌝ }
@@ -32,9 +32,9 @@ fn round(
         × ((ts : List ℕ) → state (now (vals .entry)) ts (now (marks .exit)) (now (bits .exit)) r
         ≡ roundsOf paper (within o m (w .b)) 1 (state (now (vals .entry)) ts (now (marks .entry)) (now (bits .entry)) w)) ⌝ }
 {
-    let x = control_steps::step1(vals, marks, o, m, log, w);
-    let y = control_steps::step2(vals, o, m, log, x);
-    control_steps::step3(marks, bits, o, m, log, y)
+    let x = control_rings::step1(vals, marks, o, m, log, w);
+    let y = control_rings::step2(vals, o, m, log, x);
+    control_rings::step3(marks, bits, o, m, log, y)
 }
 
 // The k rounds of a network.
@@ -45,8 +45,8 @@ fn rounds(
     o: usize,
     m: usize,
     log: &mut [u16],
-    w: control_steps::Walk,
-) -> control_steps::Walk
+    w: control_walk::Walk,
+) -> control_walk::Walk
     requires { ⌜ (2 ≤ m) × (o + m ≤ 1024) × (o + m ≤ length (now vals)) × (up m ≤ length (now marks))
         × (w .b + up m ≤ length (now bits)) × (entryWords * (w .e + 3 * up m) ≤ length (now log))
         × Tidy 32768 (state (now vals) [] (now marks) (now bits) w) ⌝ }
@@ -73,8 +73,8 @@ fn input_steps(
     o: usize,
     m: usize,
     log: &mut [u16],
-    w: control_steps::Walk,
-) -> control_steps::Walk
+    w: control_walk::Walk,
+) -> control_walk::Walk
     requires { ⌜ (2 ≤ m) × Room o m w (now vals) (now trails) (now marks) (now bits) (now log)
         × Tidy 32768 (state (now vals) (now trails) (now marks) (now bits) w) ⌝ }
     ensures { λ r. ⌜ Went (inputEntries o m) (up m - 1) w r (now (log .entry)) (now (log .exit))
@@ -86,7 +86,7 @@ fn input_steps(
         return w;
     }
     let x = rounds(vals, marks, bits, o, m, log, w);
-    control_steps::step4(vals, trails, marks, bits, o, m, log, x)
+    control_layers::step4(vals, trails, marks, bits, o, m, log, x)
 }
 
 // All that comes before the halves.
@@ -98,8 +98,8 @@ fn enter(
     o: usize,
     m: usize,
     log: &mut [u16],
-    w: control_steps::Walk,
-) -> control_steps::Walk
+    w: control_walk::Walk,
+) -> control_walk::Walk
     requires { ⌜ (2 ≤ m) × Room o m w (now vals) (now trails) (now marks) (now bits) (now log)
         × Tidy 32768 (state (now vals) (now trails) (now marks) (now bits) w) × Lengthens o m (now trails) ⌝ }
     ensures { λ r. ⌜ Went (inputEntries o m ++ (entry 5 o m ∷ [])) (up m - 1) w r (now (log .entry)) (now (log .exit))
@@ -108,7 +108,7 @@ fn enter(
         (now (trails .entry)) (now (marks .entry)) (now (bits .entry)) w))) ⌝ }
 {
     let x = input_steps(vals, trails, marks, bits, o, m, log, w);
-    control_steps::step5(vals, trails, o, m, log, x)
+    control_layers::step5(vals, trails, o, m, log, x)
 }
 
 // The network of m places from o, whose bits begin at w.b.
@@ -120,8 +120,8 @@ pub fn set_network(
     o: usize,
     m: usize,
     log: &mut [u16],
-    w: control_steps::Walk,
-) -> control_steps::Walk
+    w: control_walk::Walk,
+) -> control_walk::Walk
     requires { ⌜ Room o m w (now vals) (now trails) (now marks) (now bits) (now log)
         × Tidy (1024 + 2 * w .b) (state (now vals) (now trails) (now marks) (now bits) w) × Lengthens o m (now trails) ⌝ }
     ensures { λ r. ⌜ Went (entriesOf paper (network m) (λ i. o + i)) (W m) w r (now (log .entry)) (now (log .exit))
@@ -136,5 +136,5 @@ pub fn set_network(
     let x = enter(vals, trails, marks, bits, o, m, log, w);
     let y = set_network(vals, trails, marks, bits, o, k, log, x);
     let z = set_network(vals, trails, marks, bits, o + k, m - k, log, y);
-    control_steps::step6(vals, trails, bits, o, m, log, z)
+    control_layers::step6(vals, trails, bits, o, m, log, z)
 }

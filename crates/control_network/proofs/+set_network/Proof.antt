@@ -5,7 +5,7 @@ use mathlib.Core.Path.{sym, _∙_}
 use Prim.Native.Nat.{ℕ, _+_, _*_, _-_, _≤_, _<_}
 use Rattle.counts.specs.Counts.{up}
 use Rattle.counts.proofs.Rule.{W-none}
-use Rattle.control_steps.specs.Walks.{state}
+use Rattle.control_walk.specs.Walks.{state}
 use Rattle.control_network.proofs.Bounds.{tidy-more}
 use Rattle.control_network.proofs.Entries.{went-none, went-as, net-none, entries-none}
 use Rattle.control_network.proofs.Whole.{Entered, Halved, room-top, tidy-top, lengthens-top, room-bottom, tidy-bottom, lengthens-bottom, asks-six, whole-log, whole-state}
@@ -15,7 +15,7 @@ use Rattle.control_network.proofs.set_network.Reads as set-network
 use Rattle.control_network.proofs.set_network.Kinds as set-network-kinds
 use Rattle.control_network.proofs.+set_network.Lts-set_network as set-network-lts
 use Rattle.control_network.proofs.enter.Reads as enter-reads
-use Rattle.control_steps.proofs.step6.Reads as step6-reads
+use Rattle.control_layers.proofs.step6.Reads as step6-reads
 use Rattle.control_network.proofs.+set_network.{statement}
 use Rattle.control_network.proofs.+set_network.Tie.{close}
 

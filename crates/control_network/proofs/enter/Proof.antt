@@ -7,7 +7,7 @@ use Rattle.network.specs.Wiring.{paper}
 use Rattle.steps.specs.Steps.{step5}
 use Rattle.steps.specs.State.{State}
 use Rattle.steps.proofs.Lengths.{E-parts}
-use Rattle.control_steps.specs.Walks.{state, within}
+use Rattle.control_walk.specs.Walks.{state, within}
 use Rattle.control_network.specs.Inner.{Tidy}
 use Rattle.control_network.proofs.Bounds.{tidy-input}
 use Rattle.control_network.proofs.Entries.{went-then, went-as, W-parts}

@@ -9,7 +9,7 @@ use Rattle.counts.specs.Counts.{up}
 use Rattle.network.specs.Wiring.{paper}
 use Rattle.steps.specs.Steps.{step4}
 use Rattle.steps.proofs.Lengths.{length-rounds}
-use Rattle.control_steps.specs.Walks.{state, within}
+use Rattle.control_walk.specs.Walks.{state, within}
 use Rattle.control_network.specs.Inner.{Tidy}
 use Rattle.control_network.proofs.Bounds.{tidy-trails, tidy-rounds}
 use Rattle.control_network.proofs.Entries.{went-none, went-then, went-as, input-none, input-some, steps-none, steps-some, W-parts}

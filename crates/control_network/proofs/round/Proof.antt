@@ -8,8 +8,8 @@ use Rattle.network.specs.Wiring.{paper}
 use Rattle.steps.specs.Steps.{step1, step2, step3}
 use Rattle.steps.specs.State.{State}
 use Rattle.steps.specs.Fold.{roundsOf}
-use Rattle.control_steps.specs.declared.Walk.{Walk}
-use Rattle.control_steps.specs.Walks.{state, within}
+use Rattle.control_walk.specs.declared.Walk.{Walk}
+use Rattle.control_walk.specs.Walks.{state, within}
 use Rattle.control_network.specs.Inner.{Tidy}
 use Rattle.control_network.proofs.Bounds.{tidy1, tidy2}
 use Rattle.control_network.proofs.Entries.{went-then}

@@ -10,7 +10,7 @@ use Rattle.network.specs.Wiring.{paper}
 use Rattle.steps.specs.Sequence.{rounds}
 use Rattle.steps.specs.Fold.{roundsOf}
 use Rattle.steps.proofs.Lengths.{length-rounds}
-use Rattle.control_steps.specs.Walks.{state, within, Went}
+use Rattle.control_walk.specs.Walks.{state, within, Went}
 use Rattle.control_network.proofs.Bounds.{tidy-rounds}
 use Rattle.control_network.proofs.Entries.{went-none, went-then, went-as, rounds-more, round-more}
 use Rattle.control_network.proofs.rounds.Statement.{statement}

@@ -1,2 +1,0 @@
-pub mod Bounds
-pub mod Stepping
