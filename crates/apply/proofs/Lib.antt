@@ -1,4 +1,2 @@
-pub mod Halves
-pub mod Network
 pub mod Whole
 pub mod Outcome

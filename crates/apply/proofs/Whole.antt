@@ -20,7 +20,7 @@ use Rattle.network.specs.Move.{forward, backward}
 use Rattle.network.specs.Blocks.{cut, bytesOf, moved, movedBack}
 use Rattle.network.specs.Log.{Entry, words, switches, applyEntries, inverseEntries}
 use Rattle.network.proofs.Blocks.{bytes-cut}
-use Rattle.apply_exchange.specs.Ran.{Lent, Ran, bitsBack}
+use Rattle.apply_layers.specs.Ran.{Lent, Ran, bitsBack}
 use Rattle.apply_questions.specs.Questions.{applyQuestions}
 use Rattle.apply.specs.Calls.{applyCall, inverseCall}
 use Rattle.apply_questions.proofs.Asked.{Fits, passes, asked-well}

@@ -1,18 +1,14 @@
 -- The loop over a layer's switches, last to first. Its invariant: whoever runs what is left has run the whole layer.
 -- Assumes nothing.
-use borrow.Author.Needs.{needs}
 use native.Mathlib.Omega.{arith}
-use native.Mathlib.Nat.{mul-le-mul-right}
 use mathlib.Core.Path.{_≡_, refl, sym, ap, _∙_}
 use Prim.Native.Nat.{_+_, _*_, _-_, _%_, _≤_, _<_}
 use lib.ListN.{length}
-use Rattle.counts.specs.Counts.{up}
 use Rattle.bits.specs.Bits.{Bits}
-use Rattle.apply_exchange.specs.Ran.{Ran}
-use Rattle.apply_exchange.proofs.Blocks.{half-fits, within, small, block-down}
-use Rattle.apply_exchange.proofs.Runs.{Leads, leads-all, leads-more, leads-none}
-use Rattle.apply_exchange.proofs.layer_back.Statement.{statement}
-use Rattle.apply_exchange.proofs.layer_back.Tie as tie
+use Rattle.apply_layers.proofs.Blocks.{half-fits, within, small, block-down}
+use Rattle.apply_layers.proofs.Runs.{Leads, leads-all, leads-more, leads-none}
+use Rattle.apply_layers.proofs.layer_back.Statement.{statement}
+use Rattle.apply_layers.proofs.layer_back.Tie as tie
 
 abbrev Inv-loop : tie.InvT-loop
 Inv-loop blocks₀ width m c o bits log₀ e k gap first i₀ a₀ to₀ blocks log i a to =

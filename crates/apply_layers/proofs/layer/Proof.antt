@@ -1,17 +1,14 @@
 -- The loop over a layer's switches, first to last. Its invariant: the first i have acted and are logged.
 -- Assumes nothing.
-use borrow.Author.Needs.{needs}
 use native.Mathlib.Omega.{arith}
 use mathlib.Core.Path.{_≡_, refl, sym, ap, _∙_}
 use Prim.Native.Nat.{_+_, _*_, _-_, _≤_, _<_}
 use lib.ListN.{length}
-use Rattle.counts.specs.Counts.{up}
 use Rattle.bits.specs.Bits.{Bits}
-use Rattle.apply_exchange.specs.Ran.{Ran}
-use Rattle.apply_exchange.proofs.Blocks.{half-fits, within}
-use Rattle.apply_exchange.proofs.Runs.{First, first-none, first-more}
-use Rattle.apply_exchange.proofs.layer.Statement.{statement}
-use Rattle.apply_exchange.proofs.layer.Tie as tie
+use Rattle.apply_layers.proofs.Blocks.{half-fits, within}
+use Rattle.apply_layers.proofs.Runs.{First, first-none, first-more}
+use Rattle.apply_layers.proofs.layer.Statement.{statement}
+use Rattle.apply_layers.proofs.layer.Tie as tie
 
 abbrev Inv-loop : tie.InvT-loop
 Inv-loop blocks₀ width m c o bits log₀ e k gap i₀ blocks log i =

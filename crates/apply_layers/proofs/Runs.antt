@@ -1,7 +1,6 @@
 -- Runs of switches, one after the other.
 -- Assumes nothing.
 use mathlib.Core.Path.{_≡_, refl, sym, ap, _∙_}
-use mathlib.Core.Bool.{true, false}
 use mathlib.Core.List.{List, [], _∷_, _++_, reverse, reverse-append}
 use Prim.Native.Nat.{ℕ, zero, suc, _+_, _-_, _*_, _≤_, _<_}
 use native.Mathlib.Numerals.{add-one}
@@ -17,9 +16,9 @@ use Rattle.network.specs.Move.{switch, layer, layerBack}
 use Rattle.network.specs.Log.{Entry, entry, entryWords, words, layerEntries}
 use Rattle.network.proofs.Shape.{length-layerEntries}
 use Rattle.entry_log.proofs.Written.{log-then}
 use Rattle.apply_exchange.specs.Bytes.{bytesSwitched}
-use Rattle.apply_exchange.specs.Ran.{Ran, placed, bitsBack}
-use Rattle.apply_exchange.proofs.Blocks.{cut-switched}
+use Rattle.apply_layers.specs.Ran.{Ran, placed, bitsBack}
+use Rattle.apply_layers.proofs.Blocks.{cut-switched}
 
 module _ (w m : ℕ) where
   -- no switch

@@ -9,14 +9,13 @@ use lib.ListN.{length, take, drop, length-append, length-drop, drop-of-length-le
 use lib.Seq.{length-take-le, take-at, drop-at}
 use borrow.Rule.Slice.PartAt.{part-to-end}
 use borrow.Rule.Slice.PartMut.{putMid}
-use Rattle.bits.specs.Bits.{Bits}
 use Rattle.counts.specs.Counts.{W, up}
 use Rattle.counts.proofs.Rule.{W-more}
 use Rattle.network.specs.Network.{down}
 use Rattle.network.specs.Blocks.{cut}
 use Rattle.network.specs.Log.{Entry, entryWords}
 use Rattle.network.proofs.Blocks.{cut-append, cut-of-take, take-cut, drop-cut}
-use Rattle.apply_exchange.specs.Ran.{Lent, Ran}
+use Rattle.apply_layers.specs.Ran.{Lent, Ran}
 use Rattle.entry_log.proofs.Written.{log-then}
 
 -- ---- the parts of a slice, lent one after the other and back
