@@ -6,8 +6,8 @@ use mathlib.Core.Path.{_≡_}
 use Prim.Native.Nat.{ℕ, _+_, _-_, _*_, min}
 use Prim.Native.Char.{code}
 use lib.Dec.{leb}
-use Rattle.cmd_words.specs.declared.Argument.{Argument}
-use Rattle.cmd_words.specs.declared.Argument.the-variants.{Number, NoNumber}
+use Rattle.cmd_streams.specs.declared.Argument.{Argument}
+use Rattle.cmd_streams.specs.declared.Argument.the-variants.{Number, NoNumber}
 
 -- larger numbers count as this one, which each question about a number of blocks or a width refuses
 abbrev pub most : ℕ

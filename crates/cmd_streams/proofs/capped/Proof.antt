@@ -1,8 +1,8 @@
--- `cmd_words::capped` meets its contract.
+-- `cmd_streams::capped` meets its contract.
 -- Assumes nothing.
 use borrow.Author.Needs.{needs}
-use Rattle.cmd_words.proofs.capped.Statement.{statement}
-use Rattle.cmd_words.proofs.capped.Tie as tie
+use Rattle.cmd_streams.proofs.capped.Statement.{statement}
+use Rattle.cmd_streams.proofs.capped.Tie as tie
 
 returns : tie.Need-returns
 returns c = search needs

@@ -1,9 +1,9 @@
--- `cmd_words::short_read` meets its contract.
+-- `cmd_streams::short_read` meets its contract.
 -- Assumes nothing.
-use Rattle.cmd_words.proofs.Streams.{ended-is, failed-is}
+use Rattle.cmd_streams.proofs.Streams.{ended-is, failed-is}
 use borrow.Author.Needs.{needs}
-use Rattle.cmd_words.proofs.short_read.Statement.{statement}
-use Rattle.cmd_words.proofs.short_read.Tie as tie
+use Rattle.cmd_streams.proofs.short_read.Statement.{statement}
+use Rattle.cmd_streams.proofs.short_read.Tie as tie
 
 returns : tie.Need-returns
 returns c = (ended-is (c .before .args .count) (c .before .fits .after) (c .if1 .taken), search needs)

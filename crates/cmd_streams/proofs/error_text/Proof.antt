@@ -1,10 +1,10 @@
--- `cmd_words::error_text` meets its contract.
+-- `cmd_streams::error_text` meets its contract.
 -- Assumes nothing.
 use native.Mathlib.Omega.{arith}
 use Rattle.cmd_lines.proofs.Lines.{refusal-fits}
-use Rattle.cmd_words.proofs.Streams.{error-none, error-line}
-use Rattle.cmd_words.proofs.error_text.Statement.{statement}
-use Rattle.cmd_words.proofs.error_text.Tie as tie
+use Rattle.cmd_streams.proofs.Streams.{error-none, error-line}
+use Rattle.cmd_streams.proofs.error_text.Statement.{statement}
+use Rattle.cmd_streams.proofs.error_text.Tie as tie
 
 returns : tie.Need-returns
 returns c = error-none (c .before .before .args .answer) (c .before .before .args .line .now) (c .if1 .taken)

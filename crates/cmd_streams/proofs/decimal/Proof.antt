@@ -1,12 +1,12 @@
--- `cmd_words::decimal` meets its contract.
+-- `cmd_streams::decimal` meets its contract.
 -- Assumes nothing.
 use Prim.Native.Nat.{_-_}
 use native.Mathlib.Omega.{arith}
 use lib.ListN.{length}
-use Rattle.cmd_words.proofs.Digits.{Reading, none, starts, ends, below, above, more}
+use Rattle.cmd_streams.proofs.Digits.{Reading, none, starts, ends, below, above, more}
 use borrow.Author.Needs.{needs}
-use Rattle.cmd_words.proofs.decimal.Statement.{statement}
-use Rattle.cmd_words.proofs.decimal.Tie as tie
+use Rattle.cmd_streams.proofs.decimal.Statement.{statement}
+use Rattle.cmd_streams.proofs.decimal.Tie as tie
 
 abbrev Inv-loop : tie.InvT-loop
 Inv-loop text v₀ i₀ v i = Reading text v i

@@ -1,8 +1,8 @@
--- The streams: what was read, what is told of a failure, and what is written.
+-- The streams: what was read, and what is written.
 -- Assumes nothing.
 use mathlib.Core.Path.{_≡_, refl, sym, ap, _∙_}
 use mathlib.Core.List.{List, _++_}
-use Prim.Native.Nat.{ℕ, zero, suc, _+_, _≤_}
+use Prim.Native.Nat.{ℕ, zero, suc, _≤_}
 use native.Mathlib.Omega.{arith}
 use borrow.Author.Tests.{ne-eqb}
 use lib.ListN.{length, drop, length-append}
@@ -16,12 +16,9 @@ use Rattle.answers.specs.Outcomes.{Outcome, outcome, settled}
 use Rattle.answers.proofs.Buffers.{overlay-front}
 use Rattle.answers.specs.Buffers.{Put}
 use Rattle.answers.proofs.Putting.{put-none}
-use Rattle.cmd_lines.specs.Text.{text, refusalLine}
-use Rattle.cmd_words.specs.declared.Program.{Program}
-use Rattle.cmd_words.specs.declared.Program.the-variants.{Draw, Sheet, Mix, Unmix, Show, Settings}
-use Rattle.cmd_words.specs.Programs.{nameOf, subjectOf}
-use Rattle.cmd_words.specs.Reading.{gotOf}
-use Rattle.cmd_words.specs.Streams.{outputOf, errorOf}
+use Rattle.cmd_lines.specs.Text.{refusalLine}
+use Rattle.cmd_streams.specs.Reading.{gotOf}
+use Rattle.cmd_streams.specs.Streams.{outputOf, errorOf}
 
 -- ---- what was read
 
@@ -33,19 +30,6 @@ pub failed-is : (count : ℕ) (after : ℤ) → (ofZ w64 after ≡ 0 → ⊥) �
 failed-is count (pos zero) n = absurd (n refl)
 failed-is count (pos (suc k)) n = refl
 failed-is count (negsuc k) n = refl
-
--- ---- what is told of a failure
-
-name-few : (program : Program) → length (nameOf program) ≤ 8
-name-few Draw = omega arith
-name-few Sheet = omega arith
-name-few Mix = omega arith
-name-few Unmix = omega arith
-name-few Show = omega arith
-name-few Settings = omega arith
-
-pub subject-room : (program : Program) (what : List ℕ) {room : ℕ} → 10 + length what ≤ room → 0 + length (subjectOf program what) ≤ room
-subject-room program what h = omega (arith, length-append (nameOf program) (text ": " ++ what), name-few program)
 
 -- ---- what is written
 

@@ -3,7 +3,7 @@
 use mathlib.Core.Bool.{true, false}
 use Prim.Native.Nat.{ℕ, zero, suc}
 use lib.IntN.{ℤ, pos, negsuc}
-use Rattle.cmd_words.specs.declared.Got.{Got}
+use Rattle.cmd_streams.specs.declared.Got.{Got}
 
 -- a count that is short of the buffer, and what one more read answered: only 0 says that the input ended there
 abbrev pub gotOf : ℕ → ℤ → Got

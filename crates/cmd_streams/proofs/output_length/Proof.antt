@@ -1,9 +1,9 @@
--- `cmd_words::output_length` meets its contract.
+-- `cmd_streams::output_length` meets its contract.
 -- Assumes nothing.
 use borrow.Author.Needs.{needs}
-use Rattle.cmd_words.proofs.Streams.{output-all, output-none}
-use Rattle.cmd_words.proofs.output_length.Statement.{statement}
-use Rattle.cmd_words.proofs.output_length.Tie as tie
+use Rattle.cmd_streams.proofs.Streams.{output-all, output-none}
+use Rattle.cmd_streams.proofs.output_length.Statement.{statement}
+use Rattle.cmd_streams.proofs.output_length.Tie as tie
 
 returns : tie.Need-returns
 returns c = (output-all (c .before .before .args .answer) (c .before .before .args .made) (c .if1 .taken), search needs)

@@ -1,9 +1,9 @@
--- `cmd_words::are_arguments` meets its contract.
+-- `cmd_streams::are_arguments` meets its contract.
 -- Assumes nothing.
-use Rattle.cmd_words.proofs.Digits.{all-none, all-some}
+use Rattle.cmd_streams.proofs.Digits.{all-none, all-some}
 use borrow.Author.Needs.{needs}
-use Rattle.cmd_words.proofs.are_arguments.Statement.{statement}
-use Rattle.cmd_words.proofs.are_arguments.Tie as tie
+use Rattle.cmd_streams.proofs.are_arguments.Statement.{statement}
+use Rattle.cmd_streams.proofs.are_arguments.Tie as tie
 
 returns : tie.Need-returns
 returns c = all-none (c .before .args .all) (c .before .args .k) (c .if1 .taken)

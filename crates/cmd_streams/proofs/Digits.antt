@@ -11,8 +11,8 @@ use borrow.Author.Tests.{le-leb, lt-leb, eq-eqb, ne-eqb}
 use lib.Dec.{eqb}
 use lib.ListN.{length, getD, drop, drop-of-length-le}
 use lib.Seq.{drop-cons}
-use Rattle.cmd_words.specs.declared.Argument.the-variants.{Number, NoNumber}
-use Rattle.cmd_words.specs.Decimal.{most, valueOn, decimalIn}
+use Rattle.cmd_streams.specs.declared.Argument.the-variants.{Number, NoNumber}
+use Rattle.cmd_streams.specs.Decimal.{most, valueOn, decimalIn}
 
 -- ---- how many arguments there are
 
