@@ -1,4 +1,4 @@
--- `cmd_picture::put_groups` meets its contract.
+-- `cmd_picture_line::put_groups` meets its contract.
 -- Assumes nothing.
 use mathlib.Core.Path.{sym}
 use mathlib.Core.List.{_++_}
@@ -6,11 +6,11 @@ use Prim.Native.Nat.{_-_}
 use native.Mathlib.Omega.{arith}
 use lib.ListN.{take, drop, length-append}
 use lib.Seq.{length-take-le}
-use Rattle.cmd_picture.specs.Picture.{group}
-use Rattle.cmd_picture.proofs.Grouping.{four-second, four-third, four-fourth, put-four, tail-is}
+use Rattle.cmd_picture_line.specs.Line.{group}
+use Rattle.cmd_picture_line.proofs.Grouping.{four-second, four-third, four-fourth, put-four, tail-is}
 use borrow.Author.Needs.{needs}
-use Rattle.cmd_picture.proofs.put_groups.Statement.{statement}
-use Rattle.cmd_picture.proofs.put_groups.Tie as tie
+use Rattle.cmd_picture_line.proofs.put_groups.Statement.{statement}
+use Rattle.cmd_picture_line.proofs.put_groups.Tie as tie
 
 slice-aggregate-put-group : tie.Need-slice-aggregate-put-group
 slice-aggregate-put-group c = sym (length-take-le _ _ (omega (arith, c .before .before .before .before .pre .0, c .before .before .before .before .pre .1, c .before .before .before .before .pre .2)))

@@ -1,15 +1,15 @@
--- `cmd_picture::put_line` meets its contract.
+-- `cmd_picture_line::put_line` meets its contract.
 -- Assumes nothing.
 use mathlib.Core.Path.{ap}
 use native.Mathlib.Omega.{arith}
 use lib.ListN.{length, length-append}
 use Rattle.answers.proofs.Putting.{put-then}
 use Rattle.cmd_lines.specs.Text.{text}
-use Rattle.cmd_picture.specs.Picture.{grouped}
-use Rattle.cmd_picture.proofs.Grouping.{output-within, groups-are}
+use Rattle.cmd_picture_line.specs.Line.{grouped}
+use Rattle.cmd_picture_line.proofs.Grouping.{output-within, groups-are}
 use borrow.Author.Needs.{needs}
-use Rattle.cmd_picture.proofs.put_line.Statement.{statement}
-use Rattle.cmd_picture.proofs.put_line.Tie as tie
+use Rattle.cmd_picture_line.proofs.put_line.Statement.{statement}
+use Rattle.cmd_picture_line.proofs.put_line.Tie as tie
 
 add-k : tie.Need-add-k
 add-k c = search needs

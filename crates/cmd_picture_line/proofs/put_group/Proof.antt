@@ -1,14 +1,14 @@
--- `cmd_picture::put_group` meets its contract.
+-- `cmd_picture_line::put_group` meets its contract.
 -- Assumes nothing.
 use mathlib.Core.Path.{ap}
 use native.Mathlib.Omega.{arith}
 use lib.ListN.{length, length-append}
 use Rattle.answers.proofs.Putting.{put-none, put-then}
 use Rattle.cmd_lines.specs.Text.{text}
-use Rattle.cmd_picture.proofs.Grouping.{group-none, group-some}
+use Rattle.cmd_picture_line.proofs.Grouping.{group-none, group-some}
 use borrow.Author.Needs.{needs}
-use Rattle.cmd_picture.proofs.put_group.Statement.{statement}
-use Rattle.cmd_picture.proofs.put_group.Tie as tie
+use Rattle.cmd_picture_line.proofs.put_group.Statement.{statement}
+use Rattle.cmd_picture_line.proofs.put_group.Tie as tie
 
 returns : tie.Need-returns
 returns c = rw (group-none (c .before .before .before .args .columns .now) (c .if1 .taken)) (put-none _ _)

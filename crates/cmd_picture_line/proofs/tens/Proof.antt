@@ -1,9 +1,9 @@
--- `cmd_picture::tens` meets its contract.
+-- `cmd_picture_line::tens` meets its contract.
 -- Assumes nothing.
-use Rattle.cmd_picture.proofs.Marks.{one-digit, two-digits}
+use Rattle.cmd_picture_line.proofs.Labels.{one-digit, two-digits}
 use borrow.Author.Needs.{needs}
-use Rattle.cmd_picture.proofs.tens.Statement.{statement}
-use Rattle.cmd_picture.proofs.tens.Tie as tie
+use Rattle.cmd_picture_line.proofs.tens.Statement.{statement}
+use Rattle.cmd_picture_line.proofs.tens.Tie as tie
 
 cast-result : tie.Need-cast-result
 cast-result c = search needs

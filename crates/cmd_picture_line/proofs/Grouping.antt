@@ -1,23 +1,18 @@
 -- Columns in groups.
 -- Assumes nothing.
 use mathlib.Core.Path.{_≡_, refl, sym, ap, _∙_}
-use mathlib.Core.Bool.{true}
 use mathlib.Core.List.{List, [], _∷_, _++_}
-use Prim.Native.Nat.{ℕ, _+_, _-_, _≤_, _<_}
+use Prim.Native.Nat.{ℕ, _+_, _-_, _≤_}
 use native.Mathlib.Omega.{arith}
-use borrow.Author.Tests.{leb-true}
-use lib.Dec.{leb}
 use lib.ListN.{length, take, drop, length-append, length-drop, take-append-drop}
 use lib.Seq.{drop-drop, take-all}
-use Rattle.answers.specs.Questions.{firstBadFrom}
-use Rattle.answers.proofs.Questions.{all-good}
-use Rattle.counts.specs.Counts.{W, up, byHalves}
+use Rattle.counts.specs.Counts.{W, up}
 use Rattle.counts.proofs.Rule.{W-more}
 use Rattle.answers.specs.Buffers.{Put}
 use Rattle.answers.proofs.Putting.{put-then}
-use Rattle.cmd_lines.specs.Text.{text, bitsText}
-use Rattle.cmd_lines.proofs.Lines.{put-kept, room-second, room-third, put-three, bits-long, bits-within}
-use Rattle.cmd_picture.specs.Picture.{group, groups, topAt, bottomAt, outputAt, grouped}
+use Rattle.cmd_lines.specs.Text.{text}
+use Rattle.cmd_lines.proofs.Lines.{put-kept, room-second, room-third, put-three}
+use Rattle.cmd_picture_line.specs.Line.{group, groups, topAt, bottomAt, outputAt, grouped}
 
 -- ---- one group
 
@@ -55,11 +50,6 @@ module _ (ys zs ws : List ℕ) {a : List ℕ} {at : ℕ} {xs : List ℕ} {r : �
 
 -- ---- the network's groups
 
--- at most 49 switches: one computed test
-pub small : (n : ℕ) → n ≤ 16 → W n ≤ 49
-unfolding firstBadFrom W byHalves
-small n h = leb-true (W n) 49 (all-good (λ m. leb (W m) 49) 17 refl n (omega arith))
-
 -- the output switches are the last
 pub output-within : (n : ℕ) → 2 ≤ n → outputAt n ≤ W n
 output-within n h = omega (arith, W-more n h)
@@ -72,13 +62,6 @@ groups-are n cs e f = rw (e, f)
 -- the columns from c on, as the code takes them
 pub tail-is : (c : ℕ) (cs : List ℕ) → take (length cs - c) (drop c cs) ≡ drop c cs
 tail-is c cs = take-all (length cs - c) (drop c cs) (omega (arith, length-drop c cs))
-
--- the bits' characters are as many as the switches
-pub bits-few : (n : ℕ) (bits : List ℕ) → n ≤ 16 → length bits ≡ W n → length (bitsText bits) ≤ 49
-bits-few n bits h e = bits-within bits 49 (omega arith) (omega (arith, small n h))
-
-pub bits-each : (n : ℕ) (bits : List ℕ) → 2 ≤ n → length bits ≡ W n → length (bitsText bits) ≡ W n
-bits-each n bits h e = bits-long bits (λ z. omega (arith, W-more n h)) ∙ e
 
 -- a part of a list and what is behind it
 parts : (j : ℕ) (cs : List ℕ) → length (take j cs) + length (drop j cs) ≡ length cs

@@ -1,8 +1,8 @@
--- `cmd_picture::put_label` meets its contract.
+-- `cmd_picture_line::put_label` meets its contract.
 -- Assumes nothing.
 use borrow.Author.Needs.{needs}
-use Rattle.cmd_picture.proofs.put_label.Statement.{statement}
-use Rattle.cmd_picture.proofs.put_label.Tie as tie
+use Rattle.cmd_picture_line.proofs.put_label.Statement.{statement}
+use Rattle.cmd_picture_line.proofs.put_label.Tie as tie
 
 tens-requires : tie.Need-tens-requires
 tens-requires c κs = search needs
