@@ -3,7 +3,7 @@
 mod plain;
 
 use answers::Answer;
-use cmd_words::Argument;
+use cmd_streams::Argument;
 use cmd_words::Program;
 use tally::Tally;
 
@@ -231,7 +231,7 @@ fn number(a: Argument) -> usize {
 }
 
 fn argument(t: Tally, text: &[u8], value: usize) -> Tally {
-    tally::tallied(t, number(cmd_words::decimal(text)) == value)
+    tally::tallied(t, number(cmd_streams::decimal(text)) == value)
 }
 
 fn check_numbers() -> Tally {
@@ -264,7 +264,7 @@ fn is_line(made: &[u8; 53], n: usize, text: &[u8]) -> bool {
 
 fn line(t: Tally, answer: Answer, text: &[u8]) -> Tally {
     let mut made = [7u8; 53];
-    let n = cmd_words::error_text(answer, &mut made);
+    let n = cmd_streams::error_text(answer, &mut made);
     tally::tallied(t, is_line(&made, n, text))
 }
 
@@ -272,8 +272,8 @@ fn check_lines() -> Tally {
     let a = line(tally::none(), answers::refuse(3, 0), b"refused 3 at 0\n");
     let b = line(a, answers::refuse(12, 1321), b"refused 12 at 1321\n");
     let c = line(b, answers::accept(9), b"");
-    let d = tally::tallied(c, cmd_words::output_length(answers::accept(9), 5) == 5);
-    tally::tallied(d, cmd_words::output_length(answers::refuse(9, 1), 5) == 0)
+    let d = tally::tallied(c, cmd_streams::output_length(answers::accept(9), 5) == 5);
+    tally::tallied(d, cmd_streams::output_length(answers::refuse(9, 1), 5) == 0)
 }
 
 // How a program is called, and what is told of a file of it.

@@ -1,13 +1,13 @@
 // What the programs share: arguments, a file by name, and the streams. No contract can say what is read or written; what is
-// chosen from it can be (crate cmd_words).
+// chosen from it can be (crates cmd_words and cmd_streams).
 ghost use mathlib.Core.Path.{_≡_};
 ghost use Prim.Native.Nat.{_≤_};
 ghost use lib.ListN.{length, replicate};
 ghost use Rattle.io.specs.Counts.{Counts};
-ghost use Rattle.cmd_words.specs.Decimal.{Spelled};
+ghost use Rattle.cmd_streams.specs.Decimal.{Spelled};
 use answers::Answer;
-use cmd_words::Argument;
-use cmd_words::Got;
+use cmd_streams::Argument;
+use cmd_streams::Got;
 use cmd_words::Program;
 use libc::STDERR_FILENO;
 use libc::STDIN_FILENO;
@@ -17,7 +17,7 @@ use libc::STDOUT_FILENO;
 
 // Whether the program was started with other than k arguments, which it then tells.
 pub fn misused(program: Program, k: usize) -> bool {
-    if cmd_words::are_arguments(os::arg_count(), k) {
+    if cmd_streams::are_arguments(os::arg_count(), k) {
         return false;
     }
     tell_usage(program);
@@ -43,7 +43,7 @@ fn number_argument(k: usize) -> Argument
 {
     let mut text = io::buffer();
     let n = os::arg(k, &mut text);
-    cmd_words::decimal(&text[..n])
+    cmd_streams::decimal(&text[..n])
 }
 
 fn tell_usage(program: Program) {
@@ -76,7 +76,7 @@ fn read_from(fd: i32, buf: &mut [u8]) -> Got
         };
     }
     let mut more = [0u8; 1];
-    cmd_words::short_read(n, libc::read(fd, &mut more))
+    cmd_streams::short_read(n, libc::read(fd, &mut more))
 }
 
 // As much of standard input as buf holds.
@@ -106,7 +106,7 @@ fn read_file(program: Program, path: &[u8], buf: &mut [u8]) -> Got
     let fd = open(path);
     if fd < 0 {
         fail(program, path);
-        return cmd_words::short_read(0, -1);
+        return cmd_streams::short_read(0, -1);
     }
     let got = read_from(fd, buf);
     if got.failed {
@@ -135,7 +135,7 @@ pub fn blocks_buffer() -> [u8; 262145]
 
 fn write_error(answer: Answer) {
     let mut line = [0u8; 53];
-    let n = cmd_words::error_text(answer, &mut line);
+    let n = cmd_streams::error_text(answer, &mut line);
     io::write_all(STDERR_FILENO, &line[..n]);
 }
 
@@ -148,7 +148,7 @@ pub fn write_output(program: Program, made: &[u8]) {
 
 // What was made or the refusal, each to its stream.
 pub fn finish(program: Program, answer: Answer, made: &[u8]) {
-    let n = cmd_words::output_length(answer, made.len());
+    let n = cmd_streams::output_length(answer, made.len());
     write_output(program, &made[..n]);
     write_error(answer);
 }

@@ -1,3 +1,3 @@
 pub mod Marks
-pub mod Grouping
+pub mod Switches
 pub mod Logged

@@ -5,10 +5,8 @@ use mathlib.Core.List.{List, [], _∷_, _++_}
 use Prim.Native.Nat.{ℕ, zero, suc, _+_, _*_, _≤_, _<_}
 use native.Mathlib.Nat.{mul-one, suc-mul, mul-le-mul-right}
 use native.Mathlib.Omega.{arith}
-use borrow.Author.Tests.{leb-true}
-use lib.Dec.{leb}
-use lib.ListN.{length, getD, take, drop, length-append, List·getD-append}
-use lib.Seq.{getD-drop, length-take-le}
+use lib.ListN.{length, getD, drop, length-append}
+use lib.Seq.{getD-drop}
 use Rattle.answers.specs.declared.Answer.{Answer}
 use Rattle.answers.specs.Buffers.{overlay}
 use Rattle.answers.specs.Outcomes.{Logged, logged}
@@ -18,7 +16,6 @@ use Rattle.counts.specs.Counts.{W}
 use Rattle.network.specs.Wiring.{paper}
 use Rattle.network.specs.Log.{Entry, entry, entryWords, words, entryAt, applyEntries}
 use Rattle.network.proofs.Shape.{entryAt-front, length-applyEntries}
-use Rattle.permutation.specs.Permutations.{tabulate}
 use Rattle.permutation.proofs.Tables.{is-tabulate}
 use Rattle.apply.specs.Calls.{applyCall}
 use Rattle.apply_questions.proofs.Asked.{Fits}
@@ -27,9 +24,11 @@ use Rattle.answers.specs.Buffers.{Put}
 use Rattle.answers.proofs.Putting.{put-then}
 use Rattle.cmd_lines.specs.Text.{text, bitsText}
 use Rattle.cmd_lines.proofs.Lines.{put-kept}
-use Rattle.cmd_picture.specs.Picture.{mark, columns, label, grouped, heading, row, rows, picture}
+use Rattle.cmd_picture_line.specs.Line.{label, grouped}
+use Rattle.cmd_picture_line.proofs.Grouping.{grouped-long}
+use Rattle.cmd_picture.specs.Picture.{mark, columns, heading, row, rows, picture}
 use Rattle.cmd_picture.specs.Inner.{markIn, columnsIn, rowsIn}
-use Rattle.cmd_picture.proofs.Grouping.{small, bits-few, grouped-long}
+use Rattle.cmd_picture.proofs.Switches.{small, bits-few}
 
 -- ---- columns
 

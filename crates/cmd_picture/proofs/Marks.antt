@@ -1,9 +1,9 @@
 -- One mark, one row, and the rows of the first places.
 -- Assumes nothing.
-use mathlib.Core.Path.{_≡_, refl, sym, ap, _∙_}
+use mathlib.Core.Path.{_≡_, refl, _∙_}
 use mathlib.Core.Bool.{Bool, true, false, _||_}
-use mathlib.Core.List.{List, [], _∷_, _++_}
-use Prim.Native.Nat.{ℕ, zero, suc, _+_, _/_, _%_, _≤_, _<_}
+use mathlib.Core.List.{List, _++_}
+use Prim.Native.Nat.{ℕ, zero, suc, _+_, _≤_, _<_}
 use native.Mathlib.Numerals.{add-one}
 use native.Mathlib.Omega.{arith}
 use native.Mathlib.Decide.{decLt}
@@ -13,7 +13,7 @@ use lib.ListN.{length, length-append}
 use Rattle.answers.specs.Buffers.{Put}
 use Rattle.answers.proofs.Putting.{put-none, put-then}
 use Rattle.cmd_lines.specs.Text.{character}
-use Rattle.cmd_picture.specs.Picture.{mark, highDigit, label}
+use Rattle.cmd_picture.specs.Picture.{mark}
 use Rattle.cmd_picture.specs.Inner.{rowIn, rowsIn}
 
 either : (a : Bool) → (a || true) ≡ true
@@ -36,12 +36,6 @@ module _ (lower upper bit place : ℕ) where
 
     pub mark-between : lower < place → place < upper → 124 ≡ mark lower upper bit place
     mark-between l h = rw (mark, ne-eqb place lower n, ne-eqb place upper m, lt-ltb lower place l, lt-ltb place upper h)
-
-pub one-digit : (place : ℕ) → place < 10 → 32 ≡ highDigit place
-one-digit place h = rw (highDigit, lt-ltb place 10 h)
-
-pub two-digits : (place : ℕ) → 10 ≤ place → 48 + place / 10 ≡ highDigit place
-two-digits place h = rw (highDigit, le-ltb place 10 h)
 
 -- ---- rows
 

@@ -6,7 +6,8 @@ use lib.ListN.{length, getD}
 use Rattle.network.specs.Log.{entryAt}
 use Rattle.permutation.specs.Permutations.{tabulate}
 use Rattle.cmd_lines.specs.Text.{text}
-use Rattle.cmd_picture.specs.Picture.{mark, label, grouped}
+use Rattle.cmd_picture_line.specs.Line.{label, grouped}
+use Rattle.cmd_picture.specs.Picture.{mark}
 
 abbrev pub markIn : List ℕ → List ℕ → ℕ → ℕ → ℕ
 markIn log bits place e = mark (entryAt log e .first) (entryAt log e .second) (getD bits e 0) place

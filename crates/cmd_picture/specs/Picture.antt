@@ -1,16 +1,16 @@
 -- A network under a setting as text: one row a place, one column a switch, in the sequence of the bits. The bits stand above
 -- their columns, and a gap between those of the network's input switches, its top, its bottom and its output switches.
 -- Assumes nothing: these are definitions.
-use mathlib.Core.Bool.{Bool, true, false, _&&_, _||_}
+use mathlib.Core.Bool.{true, false, _&&_, _||_}
 use mathlib.Core.List.{List, [], _∷_, _++_}
-use Prim.Native.Nat.{ℕ, zero, suc, _+_, _-_, _/_, _%_}
+use Prim.Native.Nat.{ℕ, zero, suc}
 use Prim.Native.Char.{code}
 use lib.Dec.{ltb, eqb}
-use lib.ListN.{getD, take, drop}
-use Rattle.counts.specs.Counts.{W, up}
+use lib.ListN.{getD, drop}
 use Rattle.network.specs.Wiring.{paper}
 use Rattle.network.specs.Log.{Entry, applyEntries}
 use Rattle.cmd_lines.specs.Text.{text, character, bitsText}
+use Rattle.cmd_picture_line.specs.Line.{label, grouped}
 
 -- what the switch on two places shows at a place: its bit at the two, a bar between them, elsewhere the wire
 abbrev pub mark : ℕ → ℕ → ℕ → ℕ → ℕ
@@ -24,37 +24,6 @@ mark lower upper bit place =
 unfoldable pub columns : List Entry → List ℕ → ℕ → List ℕ
 columns [] bits place = []
 columns (e ∷ es) bits place = mark (e .first) (e .second) (getD bits 0 0) place ∷ columns es (drop 1 bits) place
-
--- a place's number, right-aligned in two columns, and a space
-abbrev pub highDigit : ℕ → ℕ
-highDigit place = elim (ltb place 10) [ true ↦ code " " | false ↦ code "0" + place / 10 ]
-
-abbrev pub label : ℕ → List ℕ
-label place = highDigit place ∷ (code "0" + place % 10) ∷ code " " ∷ []
-
--- ---- gaps
-
--- the columns of some switches and a gap behind them: nothing where there is no switch
-unfoldable pub group : List ℕ → List ℕ
-group [] = []
-group (c ∷ cs) = c ∷ (cs ++ text " ")
-
--- columns in four groups, by the columns with which the second, the third and the fourth begin
-abbrev pub groups : ℕ → ℕ → ℕ → List ℕ → List ℕ
-groups a b c cs = group (take a cs) ++ (group (take (b - a) (drop a cs)) ++ (group (take (c - b) (drop b cs)) ++ drop c cs))
-
--- those of a network of n places: its input switches, top, bottom and output switches
-abbrev pub topAt : ℕ → ℕ
-topAt n = up n - 1
-
-abbrev pub bottomAt : ℕ → ℕ
-bottomAt n = topAt n + W (up n)
-
-abbrev pub outputAt : ℕ → ℕ
-outputAt n = bottomAt n + W (n - up n)
-
-unfoldable pub grouped : ℕ → List ℕ → List ℕ
-grouped n cs = groups (topAt n) (bottomAt n) (outputAt n) cs
 
 -- ---- lines
 

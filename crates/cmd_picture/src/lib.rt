@@ -1,14 +1,12 @@
 // The network of a few places under a setting, as text.
 ghost use mathlib.Core.Path.{_≡_};
-ghost use mathlib.Core.List.{_++_};
 ghost use Prim.Native.Nat.{_+_, _*_, _≤_, _<_};
 ghost use lib.ListN.{length};
 ghost use Rattle.bits.specs.Bits.{Bits};
 ghost use Rattle.counts.specs.Counts.{W};
 ghost use Rattle.answers.specs.Buffers.{Put};
 ghost use Rattle.network.specs.Log.{entryWords};
-ghost use Rattle.cmd_lines.specs.Text.{text, bitsText};
-ghost use Rattle.cmd_picture.specs.Picture.{mark, highDigit, label, group, groups, grouped, heading, picture};
+ghost use Rattle.cmd_picture.specs.Picture.{mark, heading, picture};
 ghost use Rattle.cmd_picture.specs.Inner.{columnsIn, rowIn, rowsIn};
 
 // The picture, at a place of out; the answer is the place after it. Public for the crate that shows a sheet, which has read
@@ -32,7 +30,7 @@ fn put_heading(out: &mut [u8], at: usize, n: usize, bits: &[u8]) -> usize
     let mut columns = [0u8; 49];
     let w = cmd_lines::put_bits(&mut columns, 0, bits);
     let a = cmd_lines::put_text(out, at, b"   ");
-    put_line(out, a, n, &columns[..w])
+    cmd_picture_line::put_line(out, a, n, &columns[..w])
 }
 
 fn put_rows(out: &mut [u8], at: usize, n: usize, bits: &[u8], log: &[u16]) -> usize
@@ -56,62 +54,8 @@ fn put_row(out: &mut [u8], at: usize, n: usize, place: usize, bits: &[u8], log: 
 {
     let mut columns = [0u8; 49];
     let w = put_columns(&mut columns, 0, place, bits, log);
-    let a = put_label(out, at, place);
-    put_line(out, a, n, &columns[..w])
-}
-
-// The columns in their groups, and a newline.
-fn put_line(out: &mut [u8], at: usize, n: usize, columns: &[u8]) -> usize
-    requires { ⌜ (2 ≤ n) × (n ≤ 16) × (length (now columns) ≡ W n)
-        × (at + length (grouped n (now columns) ++ text "\n") ≤ length (now out)) ⌝ }
-    ensures { λ r. ⌜ Put (now (out .entry)) at (grouped n (now (columns .entry)) ++ text "\n") r (now (out .exit)) ⌝ }
-{
-    let k = (n + 1) / 2;
-    let top = k - 1;
-    let bottom = top + counts::switches(k);
-    let output = bottom + counts::switches(n - k);
-    let a = put_groups(out, at, top, bottom, output, columns);
-    cmd_lines::put_text(out, a, b"\n")
-}
-
-fn put_groups(out: &mut [u8], at: usize, a: usize, b: usize, c: usize, columns: &[u8]) -> usize
-    requires { ⌜ (a ≤ b) × (b ≤ c) × (c ≤ length (now columns)) × (at + length (groups a b c (now columns)) ≤ length (now out)) ⌝ }
-    ensures { λ r. ⌜ Put (now (out .entry)) at (groups a b c (now (columns .entry))) r (now (out .exit)) ⌝ }
-{
-    let top = put_group(out, at, &columns[..a]);
-    let bottom = put_group(out, top, &columns[a..b]);
-    let output = put_group(out, bottom, &columns[b..c]);
-    cmd_lines::put_text(out, output, &columns[c..])
-}
-
-fn put_group(out: &mut [u8], at: usize, columns: &[u8]) -> usize
-    requires { ⌜ at + length (group (now columns)) ≤ length (now out) ⌝ }
-    ensures { λ r. ⌜ Put (now (out .entry)) at (group (now (columns .entry))) r (now (out .exit)) ⌝ }
-{
-    if columns.len() == 0 {
-        return at;
-    }
-    let end = cmd_lines::put_text(out, at, columns);
-    cmd_lines::put_text(out, end, b" ")
-}
-
-fn put_label(out: &mut [u8], at: usize, place: usize) -> usize
-    requires { ⌜ (place < 100) × (at + 3 ≤ length (now out)) ⌝ }
-    ensures { λ r. ⌜ Put (now (out .entry)) at (label place) r (now (out .exit)) ⌝ }
-{
-    let text = [tens(place), 48 + (place % 10) as u8, 32];
-    cmd_lines::put_text(out, at, &text)
-}
-
-fn tens(place: usize) -> u8
-    requires { ⌜ place < 100 ⌝ }
-    ensures { λ r. ⌜ r ≡ highDigit place ⌝ }
-{
-    if place < 10 {
-        32
-    } else {
-        48 + (place / 10) as u8
-    }
+    let a = cmd_picture_line::put_label(out, at, place);
+    cmd_picture_line::put_line(out, a, n, &columns[..w])
 }
 
 fn put_columns(out: &mut [u8], at: usize, place: usize, bits: &[u8], log: &[u16]) -> usize

@@ -1,6 +1,6 @@
 // `draw N`: an order of N places from 4·N random bytes on standard input (01: draw), as `settings` and `sheet` read it.
 // It reads no more bytes than that, so that an input without end will do.
-use cmd_words::Argument;
+use cmd_streams::Argument;
 use cmd_words::Program;
 
 fn draw(n: usize, bytes: &[u8]) {

@@ -1,6 +1,6 @@
 // `mix SHEET WIDTH`: moves the blocks on standard input, each of WIDTH bytes, forward by the sheet in the file SHEET (01: mix).
 // A byte more than the longest sheet, of 1,320, is read, so that a surplus shows.
-use cmd_words::Argument;
+use cmd_streams::Argument;
 use cmd_words::Program;
 
 fn mix(sheet: &[u8], width: usize, blocks: &mut [u8]) {

@@ -1,7 +1,7 @@
 // `unmix SHEET WIDTH`: moves the blocks on standard input, each of WIDTH bytes, backward by the sheet in the file SHEET (01:
 // return).
 // A byte more than the longest sheet, of 1,320, is read, so that a surplus shows.
-use cmd_words::Argument;
+use cmd_streams::Argument;
 use cmd_words::Program;
 
 fn unmix(sheet: &[u8], width: usize, blocks: &mut [u8]) {

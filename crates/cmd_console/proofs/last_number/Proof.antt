@@ -2,7 +2,7 @@
 -- Assumes nothing.
 use mathlib.Core.Path.{refl}
 use mathlib.Core.List.{[]}
-use Rattle.cmd_words.specs.Decimal.{decimalIn}
+use Rattle.cmd_streams.specs.Decimal.{decimalIn}
 use borrow.Author.Needs.{needs}
 use Rattle.cmd_console.proofs.last_number.Statement.{statement}
 use Rattle.cmd_console.proofs.last_number.Tie as tie

@@ -5,7 +5,7 @@ use native.Mathlib.Omega.{arith}
 use lib.ListN.{length}
 use lib.Seq.{length-take-le}
 use Rattle.answers.proofs.Putting.{put-front, put-within, put-then}
-use Rattle.cmd_picture.proofs.Grouping.{bits-few, bits-each}
+use Rattle.cmd_picture.proofs.Switches.{bits-few, bits-each}
 use borrow.Author.Needs.{needs}
 use Rattle.cmd_picture.proofs.put_heading.Statement.{statement}
 use Rattle.cmd_picture.proofs.put_heading.Tie as tie

@@ -7,7 +7,7 @@ use lib.Seq.{length-take-le}
 use Rattle.answers.proofs.Putting.{put-front, put-within, put-then}
 use Rattle.permutation.proofs.Tables.{length-tabulate}
 use Rattle.cmd_picture.specs.Inner.{markIn}
-use Rattle.cmd_picture.proofs.Grouping.{small}
+use Rattle.cmd_picture.proofs.Switches.{small}
 use borrow.Author.Needs.{needs}
 use Rattle.cmd_picture.proofs.put_row.Statement.{statement}
 use Rattle.cmd_picture.proofs.put_row.Tie as tie

@@ -2,7 +2,7 @@
 -- Assumes nothing.
 use Rattle.cmd_lines.specs.Text.{text}
 use Rattle.cmd_lines.proofs.Lines.{put-three}
-use Rattle.cmd_words.proofs.Streams.{subject-room}
+use Rattle.cmd_words.proofs.Programs.{subject-room}
 use borrow.Author.Needs.{needs}
 use Rattle.cmd_words.proofs.put_subject.Statement.{statement}
 use Rattle.cmd_words.proofs.put_subject.Tie as tie

@@ -11,7 +11,7 @@ use Rattle.answers.specs.Questions.{firstNo}
 use Rattle.answers.specs.Outcomes.{outcome}
 use Rattle.cmd_order.specs.Orders.{orderQuestions}
 use Rattle.cmd_sheet.specs.Calls.{sheetFor, sheetCall}
-use Rattle.cmd_words.proofs.Streams.{made-within}
+use Rattle.cmd_streams.proofs.Streams.{made-within}
 use Rattle.sheet.proofs.sheet.Statement.{statement}
 use Rattle.sheet.proofs.sheet.Tie as tie
 
