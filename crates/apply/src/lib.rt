@@ -20,7 +20,7 @@ pub fn apply(
     if asked.number != 0 { // nothing is written
         return asked;
     }
-    answers::accept(apply_network::run(blocks, width, n, 0, bits, log, 0))
+    answers::accept(apply_forward::run(blocks, width, n, 0, bits, log, 0))
 }
 
 // 01: return.
@@ -38,5 +38,5 @@ pub fn apply_inverse(
     if asked.number != 0 {
         return asked;
     }
-    answers::accept(apply_network::run_back(blocks, width, n, 0, bits, log, 0))
+    answers::accept(apply_backward::run_back(blocks, width, n, 0, bits, log, 0))
 }

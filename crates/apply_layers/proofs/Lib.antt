@@ -1,2 +1,4 @@
 pub mod Blocks
+pub mod Halves
+pub mod Network
 pub mod Runs

@@ -11,7 +11,7 @@ ghost use Rattle.network.specs.Log.{layerEntries};
 ghost use Rattle.apply_layers.specs.Ran.{Lent, Ran, placed, bitsBack};
 
 // The first c switches of a layer of the network of m places from o, first to last: switch i on the places i and k + i,
-// under bit e + i, logged as entry e + i. Public for the crate `apply_network` only, whose callers have asked their
+// under bit e + i, logged as entry e + i. Public for the crate `apply_forward` only, whose callers have asked their
 // questions before: so it `requires` what they have settled.
 pub fn layer(
     blocks: &mut [u8],

@@ -4,9 +4,8 @@ use mathlib.Core.Path.{_≡_, sym, ap, _∙_}
 use mathlib.Core.List.{List, [], _∷_}
 use Prim.Native.Nat.{ℕ, _*_, _≤_, _<_}
 use native.Mathlib.Omega.{arith}
-use native.Mathlib.Decide.{decLt}
 use lib.Dec.{leb, eqb}
-use lib.ListN.{length, drop, getD, List·getD-eq-default}
+use lib.ListN.{length, drop}
 use borrow.Author.Tests.{le-leb, lt-leb, eq-eqb, ne-eqb}
 use Rattle.answers.specs.declared.Answer.{Answer}
 use Rattle.answers.specs.Answers.{refusal, accepted}
@@ -19,21 +18,10 @@ use Rattle.counts.specs.Counts.{W, E}
 use Rattle.network.specs.Wiring.{paper}
 use Rattle.network.specs.Log.{entryWords, words}
 use Rattle.permutation.specs.Permutations.{goodEntry, firstBadEntry}
-use Rattle.permutation.proofs.Permutations.{passes-permutation}
 use Rattle.steps.specs.Sequence.{setEntries}
 use Rattle.steps.specs.Run.{settingOf}
-use Rattle.control_sweeps.specs.Tables.{Below}
-use Rattle.control.specs.Inner.{Sets}
+use Rattle.control_order.specs.Inner.{Sets}
 use Rattle.control.specs.Calls.{setQuestions, setCall}
-
--- an order that passes question 6 has entries below its length
-pub below-passed : (order : List ℕ) → length order ≤ 1024 → firstBadEntry order ≡ length order → Below 1024 order
-unfolding Below
-below-passed order h e i = go (decLt i (length order))
-  where
-    go : Dec (i < length order) → getD order i 0 < 1024
-    go (yes l) = omega (arith, passes-permutation order e .below i l)
-    go (no l) = rw (List·getD-eq-default order 0 {n = i} (omega arith)) (omega arith)
 
 module _ (order bits log : List ℕ) where
   from-6 : List Question

@@ -19,7 +19,7 @@ pub fn setting_of_order(order: &[u16], bits: &mut [u8]) -> usize
     ensures { λ r. ⌜ (r ≡ E (length (now (order .entry)))) × (now (bits .exit) ≡ settingFor paper (now (order .entry))) ⌝ }
 {
     let mut log = [0u16; entry_log::MOST_SET_WORDS];
-    control::set_order(order, bits, &mut log)
+    control_order::set_order(order, bits, &mut log)
 }
 
 // The order that a setting carries, over the front of `order`: the blocks 0, 1, .. are returned under the setting, and then

@@ -6,7 +6,8 @@ use mathlib.Core.Path.{_≡_, refl, sym, ap, _∙_}
 use Prim.Native.Nat.{_≤_}
 use lib.ListN.{length}
 use Rattle.counts.specs.Counts.{W}
-use Rattle.control.proofs.Asked.{below-passed, no-1, no-4, no-5, no-6, all-yes, refused, taken}
+use Rattle.control_order.proofs.Passed.{below-passed}
+use Rattle.control.proofs.Asked.{no-1, no-4, no-5, no-6, all-yes, refused, taken}
 use Rattle.answers.specs.Answers.{refusal}
 use Rattle.permutation.specs.Permutations.{firstBadEntry}
 use Rattle.control.proofs.control_bits.Statement.{statement}

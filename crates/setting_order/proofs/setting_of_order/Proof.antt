@@ -6,7 +6,7 @@ use lib.ListN.{length, length-replicate}
 use borrow.Author.Needs.{needs}
 use Rattle.network.specs.Log.{entryWords}
 use Rattle.counts.proofs.Most.{switches-few, entries-few}
-use Rattle.control.proofs.Asked.{below-passed}
+use Rattle.control_order.proofs.Passed.{below-passed}
 use Rattle.setting_order.proofs.setting_of_order.Statement.{statement}
 use Rattle.setting_order.proofs.setting_of_order.Tie as tie
 

@@ -10,17 +10,17 @@ use borrow.Rule.Slice.PartAt.{part-to-end}
 use borrow.Rule.Slice.PartMut.{putMid}
 use Rattle.counts.specs.Counts.{W, up}
 use Rattle.network.specs.Network.{down}
-use Rattle.apply_network.proofs.Halves.{Sizes, sizes, lend, Parts, bottom-back}
-use Rattle.apply_network.proofs.Network.{W-two, nothing-back, pair-back, returned}
+use Rattle.apply_layers.proofs.Halves.{Sizes, sizes, lend, Parts, bottom-back}
+use Rattle.apply_layers.proofs.Network.{W-two, nothing-back, pair-back, returned}
 use Prim.Native.Nat.{ℕ, _<_}
 use borrow.Fn.Kinds.{In}
 use borrow.Fn.PlainCycle.{Measures, is, falls, and}
-use Rattle.apply_network.proofs.run_back.Reads as run-back
-use Rattle.apply_network.proofs.run_back.Kinds as run-back-kinds
-use Rattle.apply_network.proofs.+run_back.Lts-run_back as run-back-lts
+use Rattle.apply_backward.proofs.run_back.Reads as run-back
+use Rattle.apply_backward.proofs.run_back.Kinds as run-back-kinds
+use Rattle.apply_backward.proofs.+run_back.Lts-run_back as run-back-lts
 use Rattle.apply_layers.proofs.layer_back.Reads as layer-back-reads
-use Rattle.apply_network.proofs.+run_back.{statement}
-use Rattle.apply_network.proofs.+run_back.Tie.{close}
+use Rattle.apply_backward.proofs.+run_back.{statement}
+use Rattle.apply_backward.proofs.+run_back.Tie.{close}
 
 abbrev μ-run-back : Measures 3 run-back-kinds.ps ℕ
 μ-run-back κs a = a .1 .1 .0

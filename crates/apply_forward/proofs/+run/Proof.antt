@@ -10,17 +10,17 @@ use lib.Seq.{length-take-le}
 use borrow.Rule.Slice.PartMut.{putMid}
 use Rattle.counts.specs.Counts.{W, up}
 use Rattle.network.specs.Network.{down}
-use Rattle.apply_network.proofs.Halves.{Sizes, sizes, lend, rest-lent, rest-back}
-use Rattle.apply_network.proofs.Network.{W-two, nothing, pair, applied}
+use Rattle.apply_layers.proofs.Halves.{Sizes, sizes, lend, rest-lent, rest-back}
+use Rattle.apply_layers.proofs.Network.{W-two, nothing, pair, applied}
 use Prim.Native.Nat.{ℕ, _<_}
 use borrow.Fn.Kinds.{In}
 use borrow.Fn.PlainCycle.{Measures, is, falls, and}
-use Rattle.apply_network.proofs.run.Reads as run
-use Rattle.apply_network.proofs.run.Kinds as run-kinds
-use Rattle.apply_network.proofs.+run.Lts-run as run-lts
+use Rattle.apply_forward.proofs.run.Reads as run
+use Rattle.apply_forward.proofs.run.Kinds as run-kinds
+use Rattle.apply_forward.proofs.+run.Lts-run as run-lts
 use Rattle.apply_layers.proofs.layer.Reads as layer-reads
-use Rattle.apply_network.proofs.+run.{statement}
-use Rattle.apply_network.proofs.+run.Tie.{close}
+use Rattle.apply_forward.proofs.+run.{statement}
+use Rattle.apply_forward.proofs.+run.Tie.{close}
 
 abbrev μ-run : Measures 3 run-kinds.ps ℕ
 μ-run κs a = a .1 .1 .0

@@ -7,9 +7,9 @@ use Prim.Native.Nat.{ℕ}
 use lib.ListN.{length}
 use Rattle.counts.specs.Counts.{W}
 use lib.ListN.{replicate}
-use Rattle.control.proofs.Start.{cleared, zeros-lengthen, tidy-start, start-is, sets-whole, room-start}
-use Rattle.control.proofs.set_table.Statement.{statement}
-use Rattle.control.proofs.set_table.Tie as tie
+use Rattle.control_order.proofs.Start.{cleared, zeros-lengthen, tidy-start, start-is, sets-whole, room-start}
+use Rattle.control_order.proofs.set_table.Statement.{statement}
+use Rattle.control_order.proofs.set_table.Tie as tie
 
 load-requires : tie.Need-load-requires
 load-requires c κs = c .before .before .before .before .before .before .before .pre .2

@@ -26,7 +26,7 @@ use Rattle.control_sweeps.specs.Tables.{Below}
 use Rattle.control_walk.specs.declared.Walk.{Walk}
 use Rattle.control_walk.specs.Walks.{state, Went}
 use Rattle.control_network.specs.Inner.{Room, Tidy, Lengthens}
-use Rattle.control.specs.Inner.{Sets}
+use Rattle.control_order.specs.Inner.{Sets}
 
 unlike-self : (n : ℕ) → Unlike n (λ i. i)
 unfolding Unlike

@@ -7,9 +7,9 @@ use Prim.Native.Nat.{ℕ}
 use lib.ListN.{length}
 use Rattle.counts.specs.Counts.{up}
 use lib.ListN.{length-replicate}
-use Rattle.control.proofs.Start.{took}
-use Rattle.control.proofs.set_order.Statement.{statement}
-use Rattle.control.proofs.set_order.Tie as tie
+use Rattle.control_order.proofs.Start.{took}
+use Rattle.control_order.proofs.set_order.Statement.{statement}
+use Rattle.control_order.proofs.set_order.Tie as tie
 
 add-k : tie.Need-add-k
 add-k c = search needs

@@ -6,9 +6,9 @@ use Prim.Native.Nat.{_-_, _≤_}
 use lib.ListN.{length, getD, length-set}
 use Rattle.steps.specs.Sweeps.{each}
 use Rattle.control_sweeps.proofs.Places.{each-step}
-use Rattle.control.proofs.Start.{copied}
-use Rattle.control.proofs.load.Statement.{statement}
-use Rattle.control.proofs.load.Tie as tie
+use Rattle.control_order.proofs.Start.{copied}
+use Rattle.control_order.proofs.load.Statement.{statement}
+use Rattle.control_order.proofs.load.Tie as tie
 
 abbrev Inv-loop : tie.InvT-loop
 Inv-loop vals₀ order n i₀ vals i = ((i ≤ length order) × (length vals ≡ length vals₀)) × (vals ≡ each (λ j. j) i (λ j x. getD order j 0) vals₀)

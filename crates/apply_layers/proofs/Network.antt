@@ -18,9 +18,9 @@ use Rattle.network.specs.Blocks.{cut}
 use Rattle.network.proofs.Shape.{up+down, network-none, network-more, count-is, length-layer, length-layerBack, length-forward, length-backward, length-layerEntries, length-switches}
 use Rattle.network.proofs.Paper.{part-top, part-bottom, joined-paper}
 use Rattle.network.proofs.Blocks.{length-cut}
 use Rattle.apply_layers.specs.Ran.{Ran, placed, bitsBack}
 use Rattle.apply_layers.proofs.Runs.{ran-none, ran-then}
-use Rattle.apply_network.proofs.Halves.{beside, ran-beside, ran-beside-back}
+use Rattle.apply_layers.proofs.Halves.{beside, ran-beside, ran-beside-back}
 
 abbrev Blocks : Type 0
 Blocks = List (List ℕ)
