@@ -3,8 +3,6 @@
 mod plain;
 
 use answers::Answer;
-use cmd_streams::Argument;
-use cmd_words::Program;
 use tally::Tally;
 
 // An answer that must be a success, and one that must be a refusal: its number, its place and the count 0.
@@ -220,107 +218,12 @@ fn bad_draws() -> Tally {
     bad_draw(d, 1, b"abc", 16)
 }
 
-// ---- arguments, and the lines that are told
-
-// What is no number stands as 10,001.
-fn number(a: Argument) -> usize {
-    match a {
-        Argument::Number(v) => v,
-        Argument::NoNumber => 10001,
-    }
-}
-
-fn argument(t: Tally, text: &[u8], value: usize) -> Tally {
-    tally::tallied(t, number(cmd_streams::decimal(text)) == value)
-}
-
-fn check_numbers() -> Tally {
-    let a = argument(tally::none(), b"0", 0);
-    let b = argument(a, b"256", 256);
-    let c = argument(b, b"00009", 9);
-    let d = argument(c, b"9999", 9999);
-    let e = argument(d, b"10000", 10000);
-    let f = argument(e, b"10001", 10000);
-    argument(f, b"18446744073709551617", 10000)
-}
-
-fn check_no_numbers() -> Tally {
-    let a = argument(tally::none(), b"", 10001);
-    let b = argument(a, b"1/", 10001);
-    let c = argument(b, b":1", 10001);
-    let d = argument(c, b"-1", 10001);
-    let e = argument(d, b" 1", 10001);
-    argument(e, b"99999x", 10001)
-}
+// ---- sheets shown, with texts made by another program
 
 fn is_part(made: &[u8], n: usize, text: &[u8]) -> bool {
     let end = plain::within(n, made);
     check::same(&made[..end], text)
 }
-
-fn is_line(made: &[u8; 53], n: usize, text: &[u8]) -> bool {
-    is_part(made, n, text)
-}
-
-fn line(t: Tally, answer: Answer, text: &[u8]) -> Tally {
-    let mut made = [7u8; 53];
-    let n = cmd_streams::error_text(answer, &mut made);
-    tally::tallied(t, is_line(&made, n, text))
-}
-
-fn check_lines() -> Tally {
-    let a = line(tally::none(), answers::refuse(3, 0), b"refused 3 at 0\n");
-    let b = line(a, answers::refuse(12, 1321), b"refused 12 at 1321\n");
-    let c = line(b, answers::accept(9), b"");
-    let d = tally::tallied(c, cmd_streams::output_length(answers::accept(9), 5) == 5);
-    tally::tallied(d, cmd_streams::output_length(answers::refuse(9, 1), 5) == 0)
-}
-
-// How a program is called, and what is told of a file of it.
-fn told(before: Tally, program: Program, usage: &[u8], subject: &[u8]) -> Tally {
-    let mut line = [7u8; 53];
-    let n = cmd_words::usage_text(program, &mut line);
-    let t = tally::tallied(before, is_line(&line, n, usage));
-    let mut text = [7u8; 53];
-    let m = cmd_words::put_subject(program, b"a file", &mut text);
-    tally::tallied(t, is_line(&text, m, subject))
-}
-
-fn check_told() -> Tally {
-    let a = told(
-        tally::none(),
-        Program::Draw,
-        b"usage: draw N < RANDOM > ORDER\n",
-        b"draw: a file",
-    );
-    let b = told(
-        a,
-        Program::Sheet,
-        b"usage: sheet < ORDER > SHEET\n",
-        b"sheet: a file",
-    );
-    let c = told(
-        b,
-        Program::Mix,
-        b"usage: mix SHEET WIDTH < BLOCKS > MIXED\n",
-        b"mix: a file",
-    );
-    let d = told(
-        c,
-        Program::Unmix,
-        b"usage: unmix SHEET WIDTH < MIXED > BLOCKS\n",
-        b"unmix: a file",
-    );
-    let e = told(d, Program::Show, b"usage: show SHEET\n", b"show: a file");
-    told(
-        e,
-        Program::Settings,
-        b"usage: settings < ORDER\n",
-        b"settings: a file",
-    )
-}
-
-// ---- sheets shown, with texts made by another program
 
 fn is_text(made: &[u8; 16384], n: usize, text: &[u8]) -> bool {
     is_part(made, n, text)
@@ -365,9 +268,5 @@ fn main() {
     tally::print(b"blocks refused", bad_blocks());
     tally::print(b"orders refused", bad_orders());
     tally::print(b"draws refused", bad_draws());
-    tally::print(b"numbers", check_numbers());
-    tally::print(b"no numbers", check_no_numbers());
-    tally::print(b"lines", check_lines());
-    tally::print(b"usage and names", check_told());
     tally::print(b"sheets shown", check_shown());
 }
