@@ -1,10 +1,9 @@
-// Runs set, and mix and return on what it leaves, against a second setter, a direct scatter of the blocks, a plainly written
-// log and a plain run of the log. Prints how much was compared and how much of it was equal.
+// Runs set, and mix and return on what it leaves, against a second setter, a direct scatter of the blocks and a plainly written
+// log. Prints how much was compared and how much of it was equal.
 mod calls;
 mod nets;
 mod orders;
 mod refusals;
-mod replay;
 mod setter;
 
 use answers::Answer;
@@ -66,27 +65,6 @@ fn carry_widths(
     carry(t3, order, n, bits, w, 256)
 }
 
-// The log of a set, run from the order and bits that are 0, gives the bits.
-fn rerun(
-    t: Tally,
-    order: &[u16; 1024],
-    nets: &[usize; 12288],
-    bits: &[u8; counts::MOST_SWITCHES],
-    log: &[u16; 49152],
-    old: u8,
-) -> Tally {
-    let mut again = [old; counts::MOST_SWITCHES];
-    let w = nets::of(nets, 0, nets::BITS);
-    let mut i = 0;
-    while i < w {
-        setter::put_bit(&mut again, i, false);
-        i += 1;
-    }
-    let entries = nets::of(nets, 0, nets::ENTRIES);
-    let known = replay::run(order, nets, log, entries, &mut again);
-    same_bits(tally::tallied(t, known == entries), &again, bits)
-}
-
 fn wide(x: u8) -> u16 {
     x as u16
 }
@@ -109,7 +87,7 @@ fn set(
     setter::set(order, nets, &mut plain);
     nets::write_all(&mut right, nets);
     let t1 = same_bits(accepted(t, x, entries), bits, &plain);
-    rerun(same_words(t1, &log, &right), order, nets, &plain, &log, old)
+    same_words(t1, &log, &right)
 }
 
 fn check_order(t: Tally, order: &[u16; 1024], n: usize, nets: &[usize; 12288], old: u8) -> Tally {

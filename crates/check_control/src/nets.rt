@@ -105,20 +105,6 @@ pub(crate) fn list(n: usize) -> [usize; 12288] {
     nets
 }
 
-// The network that has a start and a size; 2,047 where there is none.
-pub(crate) fn find(nets: &[usize; 12288], o: usize, m: usize) -> usize {
-    let mut j = 0;
-    while j < 1023 {
-        if of(nets, j, SIZE) == m {
-            if of(nets, j, START) == o {
-                return j;
-            }
-        }
-        j += 1;
-    }
-    2047
-}
-
 // ---- the log
 
 fn write(log: &mut [u16; 49152], e: usize, kind: u16, o: usize, m: usize) {

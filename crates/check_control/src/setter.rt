@@ -3,22 +3,22 @@
 use crate::nets;
 
 // Entry o + i of a table.
-pub(crate) fn at(a: &[usize; 1024], o: usize, i: usize) -> usize {
+fn at(a: &[usize; 1024], o: usize, i: usize) -> usize {
     a[(o % 1024 + i % 1024) % 1024]
 }
 
-pub(crate) fn put(a: &mut [usize; 1024], o: usize, i: usize, x: usize) {
+fn put(a: &mut [usize; 1024], o: usize, i: usize, x: usize) {
     a[(o % 1024 + i % 1024) % 1024] = x;
 }
 
-pub(crate) fn put_bit(bits: &mut [u8; counts::MOST_SWITCHES], i: usize, bit: bool) {
+fn put_bit(bits: &mut [u8; counts::MOST_SWITCHES], i: usize, bit: bool) {
     if i < 9217 {
         bits[i] = bit as u8;
     }
 }
 
 // The other one of v and v + k: associates among values, the two of a pair among places.
-pub(crate) fn other(k: usize, v: usize) -> usize {
+fn other(k: usize, v: usize) -> usize {
     if v < k { tally::add(v, k) } else { v - k }
 }
 
@@ -119,7 +119,7 @@ fn pick(first: bool, x: usize, y: usize) -> usize {
 }
 
 // The position of a network's first output bit: they are its last m - k.
-pub(crate) fn outputs(nets: &[usize; 12288], j: usize) -> usize {
+fn outputs(nets: &[usize; 12288], j: usize) -> usize {
     let end = tally::add(nets::of(nets, j, nets::BIT), nets::of(nets, j, nets::BITS));
     std::num::wrapping_sub_usize(end, nets::of(nets, j, nets::SIZE) / 2)
 }
@@ -147,7 +147,7 @@ fn wide(x: u16) -> usize {
     x as usize
 }
 
-pub(crate) fn load(order: &[u16; 1024]) -> [usize; 1024] {
+fn load(order: &[u16; 1024]) -> [usize; 1024] {
     let mut table = [0usize; 1024];
     let mut i = 0;
     while i < 1024 {

@@ -1,9 +1,9 @@
--- `check_control::replay::act` meets its contract.
+-- `check_replay::replay::act` meets its contract.
 -- Assumes nothing.
 use borrow.Author.Needs.{needs}
 use Prim.Native.Nat.{_-_, _≤_}
-use Rattle.check_control.proofs.replay.act.Statement.{statement}
-use Rattle.check_control.proofs.replay.act.Tie as tie
+use Rattle.check_replay.proofs.replay.act.Statement.{statement}
+use Rattle.check_replay.proofs.replay.act.Tie as tie
 
 abbrev Inv-loop : tie.InvT-loop
 Inv-loop table₀ o k c bits first i₀ table i = i ≤ c

@@ -1,9 +1,9 @@
--- `check_control::replay::last_bits` meets its contract.
+-- `check_replay::replay::last_bits` meets its contract.
 -- Assumes nothing.
 use borrow.Author.Needs.{needs}
 use Prim.Native.Nat.{_-_, _≤_}
-use Rattle.check_control.proofs.replay.last_bits.Statement.{statement}
-use Rattle.check_control.proofs.replay.last_bits.Tie as tie
+use Rattle.check_replay.proofs.replay.last_bits.Statement.{statement}
+use Rattle.check_replay.proofs.replay.last_bits.Tie as tie
 
 abbrev Inv-loop : tie.InvT-loop
 Inv-loop table bits₀ o h first i₀ bits i = i ≤ h

@@ -1,15 +1,15 @@
--- `check_control::replay::run` meets its contract.
+-- `check_replay::replay::run` meets its contract.
 -- Assumes nothing.
 use borrow.Author.Needs.{needs}
 use Prim.Native.Nat.{_-_, _≤_}
-use Rattle.check_control.proofs.replay.run.Statement.{statement}
-use Rattle.check_control.proofs.replay.run.Tie as tie
+use Rattle.check_replay.proofs.replay.run.Statement.{statement}
+use Rattle.check_replay.proofs.replay.run.Tie as tie
 
 abbrev Inv-loop : tie.InvT-loop
-Inv-loop order nets log count bits₀ known₀ table₀ marks₀ w₀ e₀ bits known table marks w e = e ≤ count
+Inv-loop order log count bits₀ table₀ marks₀ w₀ e₀ bits table marks w e = e ≤ count
 
 abbrev μ-loop : tie.MeasureT-loop
-μ-loop order nets log count bits₀ known₀ table₀ marks₀ w₀ e₀ bits known table marks w e = count - e
+μ-loop order log count bits₀ table₀ marks₀ w₀ e₀ bits table marks w e = count - e
 
 load-requires : tie.Need-load-requires Inv-loop μ-loop
 load-requires c κs = search needs
@@ -19,6 +19,12 @@ loop-holds c = search needs
 
 mul-i : tie.Need-mul-i Inv-loop μ-loop
 mul-i c = search needs
+
+mul-kind : tie.Need-mul-kind Inv-loop μ-loop
+mul-kind c = search needs
+
+element-copy-out-kind : tie.Need-element-copy-out-kind Inv-loop μ-loop
+element-copy-out-kind c = search needs
 
 add-wide : tie.Need-add-wide Inv-loop μ-loop
 add-wide c = search needs
@@ -44,23 +50,8 @@ element-copy-out-wide-2 c = search needs
 wide-requires-2 : tie.Need-wide-requires-2 Inv-loop μ-loop
 wide-requires-2 c κs = search needs
 
-find-requires : tie.Need-find-requires Inv-loop μ-loop
-find-requires c κs = search needs
-
-mul-step : tie.Need-mul-step Inv-loop μ-loop
-mul-step c = search needs
-
-element-copy-out-step : tie.Need-element-copy-out-step Inv-loop μ-loop
-element-copy-out-step c = search needs
-
 step-requires : tie.Need-step-requires Inv-loop μ-loop
 step-requires c κs = search needs
-
-cast-add : tie.Need-cast-add Inv-loop μ-loop
-cast-add c = search needs
-
-add-requires : tie.Need-add-requires Inv-loop μ-loop
-add-requires c κs = search needs
 
 add-e : tie.Need-add-e Inv-loop μ-loop
 add-e c = search needs
@@ -83,6 +74,8 @@ run-spec =
     load-requires
     loop-holds
     mul-i
+    mul-kind
+    element-copy-out-kind
     add-wide
     mul-wide
     element-copy-out-wide
@@ -91,12 +84,7 @@ run-spec =
     mul-wide-2
     element-copy-out-wide-2
     wide-requires-2
-    find-requires
-    mul-step
-    element-copy-out-step
     step-requires
-    cast-add
-    add-requires
     add-e
     loop-less
     loop-again

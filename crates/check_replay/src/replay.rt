@@ -1,19 +1,48 @@
 // Runs a setter's log, entry by entry, on a hidden table of its own: at each place trail × 2,048 + value, where a trail is
 // a number whose lowest binary digit is its last bit.
-use crate::nets;
-use crate::setter;
-use crate::setter::at;
-use crate::setter::other;
-use crate::setter::put;
-use crate::setter::put_bit;
 
-// f, c, g, s of document 01.
+// f, c, g, s of document 01, and the position of the next bit: a network's input bits are passed in its step 4, its output bits
+// in its step 6, and those of its halves between.
 struct Walk {
     f: usize,
     c: usize,
     g: usize,
     s: usize,
+    b: usize,
 }
+
+// ---- the table
+
+// Entry o + i of a table.
+fn at(a: &[usize; 1024], o: usize, i: usize) -> usize {
+    a[(o % 1024 + i % 1024) % 1024]
+}
+
+fn put(a: &mut [usize; 1024], o: usize, i: usize, x: usize) {
+    a[(o % 1024 + i % 1024) % 1024] = x;
+}
+
+fn put_bit(bits: &mut [u8; counts::MOST_SWITCHES], i: usize, bit: bool) {
+    if i < 9217 {
+        bits[i] = bit as u8;
+    }
+}
+
+// m/2 rounded up.
+fn up(m: usize) -> usize {
+    m - m / 2
+}
+
+fn less(x: usize) -> usize {
+    if x == 0 { 0 } else { x - 1 }
+}
+
+// The other one of v and v + k: associates among values, the two of a pair among places.
+fn other(k: usize, v: usize) -> usize {
+    if v < k { tally::add(v, k) } else { v - k }
+}
+
+// ---- the steps
 
 // The value at place p. Place m is imagined and holds value m.
 fn value(table: &[usize; 1024], o: usize, m: usize, p: usize) -> usize {
@@ -34,11 +63,11 @@ fn lowest(marks: &[usize; 1024], k: usize, x: usize) -> usize {
 
 // 1. If no pair is marked, f = c = k - 1. Then g is the value at f.
 fn step1(table: &[usize; 1024], marks: &[usize; 1024], o: usize, m: usize, w: Walk) -> Walk {
-    let k = nets::up(m);
+    let k = up(m);
     let mut f = w.f;
     let mut c = w.c;
     if lowest(marks, k, 1) == k {
-        f = nets::less(k);
+        f = less(k);
         c = f;
     }
     Walk {
@@ -46,6 +75,7 @@ fn step1(table: &[usize; 1024], marks: &[usize; 1024], o: usize, m: usize, w: Wa
         c,
         g: value(table, o, m, f),
         s: w.s,
+        b: w.b,
     }
 }
 
@@ -55,7 +85,8 @@ fn step2(table: &[usize; 1024], o: usize, m: usize, w: Walk) -> Walk {
         f: w.f,
         c: w.c,
         g: w.g,
-        s: place_of(table, o, m, other(nets::up(m), w.g)),
+        s: place_of(table, o, m, other(up(m), w.g)),
+        b: w.b,
     }
 }
 
@@ -76,16 +107,15 @@ fn step3(
     marks: &mut [usize; 1024],
     bits: &mut [u8; counts::MOST_SWITCHES],
     m: usize,
-    first: usize,
     w: Walk,
 ) -> Walk {
-    let k = nets::up(m);
+    let k = up(m);
     let s = w.s;
     let mut f = other(k, s);
     let mut c = w.c;
     let pair = if s < k { s } else { f };
     if tally::add(pair, 1) < k {
-        put_bit(bits, tally::add(first, pair), s < k);
+        put_bit(bits, tally::add(w.b, pair), s < k);
     }
     put(marks, 0, pair, 1);
     let low = lowest(marks, k, 0);
@@ -95,7 +125,13 @@ fn step3(
             c = low;
         }
     }
-    Walk { f, c, g: w.g, s }
+    Walk {
+        f,
+        c,
+        g: w.g,
+        s,
+        b: w.b,
+    }
 }
 
 // Switch i on (o + i, o + k + i) acts on the table.
@@ -133,8 +169,8 @@ fn step4(
     m: usize,
     first: usize,
 ) {
-    let k = nets::up(m);
-    act(table, o, k, nets::less(k), bits, first);
+    let k = up(m);
+    act(table, o, k, less(k), bits, first);
     let mut i = 0;
     while i < k {
         put(marks, 0, i, 0);
@@ -144,7 +180,7 @@ fn step4(
 
 // 5. Each value of k or more loses k and gains 1 on its trail; each other gains 0.
 fn step5(table: &mut [usize; 1024], o: usize, m: usize) {
-    let k = nets::up(m);
+    let k = up(m);
     let mut p = 0;
     while p < m {
         put(table, o, p, gained(k, at(table, o, p)));
@@ -171,7 +207,7 @@ fn step6(
     m: usize,
     first: usize,
 ) {
-    let k = nets::up(m);
+    let k = up(m);
     last_bits(table, bits, o, m / 2, first);
     act(table, o, k, m / 2, bits, first);
     let mut p = 0;
@@ -206,26 +242,41 @@ fn regained(k: usize, cell: usize) -> usize {
     }
 }
 
-// One entry: the step of its kind on network j.
+// A step was done that passed n bits.
+fn passed(w: Walk, n: usize) -> Walk {
+    Walk {
+        f: w.f,
+        c: w.c,
+        g: w.g,
+        s: w.s,
+        b: tally::add(w.b, n),
+    }
+}
+
+// One entry: the step of its kind on the network of m places from o.
 fn step(
     table: &mut [usize; 1024],
     marks: &mut [usize; 1024],
     bits: &mut [u8; counts::MOST_SWITCHES],
-    nets: &[usize; 12288],
-    j: usize,
+    o: usize,
+    m: usize,
     kind: u16,
     w: Walk,
 ) -> Walk {
-    let o = nets::of(nets, j, nets::START);
-    let m = nets::of(nets, j, nets::SIZE);
-    let first = nets::of(nets, j, nets::BIT);
+    let b = w.b;
     match kind {
         1 => return step1(table, marks, o, m, w),
         2 => return step2(table, o, m, w),
-        3 => return step3(marks, bits, m, first, w),
-        4 => step4(table, marks, bits, o, m, first),
+        3 => return step3(marks, bits, m, w),
+        4 => {
+            step4(table, marks, bits, o, m, b);
+            return passed(w, less(up(m)));
+        }
         5 => step5(table, o, m),
-        6 => step6(table, bits, o, m, setter::outputs(nets, j)),
+        6 => {
+            step6(table, bits, o, m, b);
+            return passed(w, m / 2);
+        }
         _ => {}
     }
     w
@@ -235,31 +286,46 @@ fn wide(x: u16) -> usize {
     x as usize
 }
 
-// Runs the first `count` entries of a log, from an order and bits that are all 0. Answers how many of them name a network
-// of the list.
+// The table starts as the order.
+fn load(order: &[u16; 1024]) -> [usize; 1024] {
+    let mut table = [0usize; 1024];
+    let mut i = 0;
+    while i < 1024 {
+        table[i] = wide(order[i]);
+        i += 1;
+    }
+    table
+}
+
+// Runs the first `count` entries of a log, from an order and bits that are all 0.
 pub(crate) fn run(
     order: &[u16; 1024],
-    nets: &[usize; 12288],
-    log: &[u16; 49152],
+    log: &[u16; entry_log::MOST_SET_WORDS],
     count: usize,
     bits: &mut [u8; counts::MOST_SWITCHES],
-) -> usize {
-    let mut known = 0;
-    let mut table = setter::load(order);
+) {
+    let mut table = load(order);
     let mut marks = [0usize; 1024];
     let mut w = Walk {
         f: 0,
         c: 0,
         g: 0,
         s: 0,
+        b: 0,
     };
     let mut e = 0;
     while e < count {
-        let i = e % 16384 * 3;
-        let j = nets::find(nets, wide(log[i + 1]), wide(log[i + 2]));
-        w = step(&mut table, &mut marks, bits, nets, j, log[i], w);
-        known = tally::add(known, (j < 1023) as usize);
+        let i = e % 16381 * 3;
+        let kind = log[i];
+        w = step(
+            &mut table,
+            &mut marks,
+            bits,
+            wide(log[i + 1]),
+            wide(log[i + 2]),
+            kind,
+            w,
+        );
         e += 1;
     }
-    known
 }

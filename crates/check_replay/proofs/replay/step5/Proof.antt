@@ -1,9 +1,9 @@
--- `check_control::replay::step5` meets its contract.
+-- `check_replay::replay::step5` meets its contract.
 -- Assumes nothing.
 use borrow.Author.Needs.{needs}
 use Prim.Native.Nat.{_-_, _≤_}
-use Rattle.check_control.proofs.replay.step5.Statement.{statement}
-use Rattle.check_control.proofs.replay.step5.Tie as tie
+use Rattle.check_replay.proofs.replay.step5.Statement.{statement}
+use Rattle.check_replay.proofs.replay.step5.Tie as tie
 
 abbrev Inv-loop : tie.InvT-loop
 Inv-loop table₀ o m k p₀ table p = p ≤ m

@@ -1,0 +1,88 @@
+-- `check_replay::check_order` meets its contract.
+-- Assumes nothing.
+use mathlib.Core.Path.{sym}
+use lib.Seq.{length-take-le}
+use borrow.Author.Needs.{needs}
+use Rattle.check_replay.proofs.check_order.Statement.{statement}
+use Rattle.check_replay.proofs.check_order.Tie as tie
+
+words-requires : tie.Need-words-requires
+words-requires c κs = search needs
+
+array-share-prefix-words : tie.Need-array-share-prefix-words
+array-share-prefix-words c = search needs
+
+slice-aggregate-shuffle : tie.Need-slice-aggregate-shuffle
+slice-aggregate-shuffle c = sym (length-take-le _ _ (search needs))
+
+slice-aggregate-shuffle-2 : tie.Need-slice-aggregate-shuffle-2
+slice-aggregate-shuffle-2 c = search needs
+
+shuffle-requires : tie.Need-shuffle-requires
+shuffle-requires c κs = search needs
+
+switches-requires : tie.Need-switches-requires
+switches-requires c κs = search needs
+
+tallied-requires : tie.Need-tallied-requires
+tallied-requires c κs = search needs
+
+returns : tie.Need-returns
+returns c = search needs
+
+array-share-prefix-order : tie.Need-array-share-prefix-order
+array-share-prefix-order c = search needs
+
+slice-aggregate-control-bits : tie.Need-slice-aggregate-control-bits
+slice-aggregate-control-bits c = sym (length-take-le _ _ (search needs))
+
+array-borrow-prefix-bits : tie.Need-array-borrow-prefix-bits
+array-borrow-prefix-bits c = search needs
+
+slice-aggregate-control-bits-2 : tie.Need-slice-aggregate-control-bits-2
+slice-aggregate-control-bits-2 c = sym (length-take-le _ _ (search needs))
+
+slice-aggregate-control-bits-3 : tie.Need-slice-aggregate-control-bits-3
+slice-aggregate-control-bits-3 c = search needs
+
+control-bits-requires : tie.Need-control-bits-requires
+control-bits-requires c κs = search needs
+
+run-requires : tie.Need-run-requires
+run-requires c κs = search needs
+
+tallied-requires-2 : tie.Need-tallied-requires-2
+tallied-requires-2 c κs = search needs
+
+alike-requires : tie.Need-alike-requires
+alike-requires c κs = search needs
+
+tallied-requires-3 : tie.Need-tallied-requires-3
+tallied-requires-3 c κs = search needs
+
+returns-2 : tie.Need-returns-2
+returns-2 c = search needs
+
+pub check-order-spec : {M : Type 1} → statement M
+check-order-spec =
+    tie.close
+    (tie.spec
+    words-requires
+    array-share-prefix-words
+    slice-aggregate-shuffle
+    slice-aggregate-shuffle-2
+    shuffle-requires
+    switches-requires
+    tallied-requires
+    returns
+    array-share-prefix-order
+    slice-aggregate-control-bits
+    array-borrow-prefix-bits
+    slice-aggregate-control-bits-2
+    slice-aggregate-control-bits-3
+    control-bits-requires
+    run-requires
+    tallied-requires-2
+    alike-requires
+    tallied-requires-3
+    returns-2)
