@@ -19,7 +19,7 @@ use Rattle.steps.specs.State.{State, Subnetwork, outputBit}
 use Rattle.steps.specs.Steps.{other, digit, step1, step2, step3, step4, step5, step6}
 use Rattle.steps.specs.Fold.{roundsOf, inputSteps, setNet}
 use Rattle.control_sweeps.specs.Tables.{Below}
-use Rattle.control_sweeps.proofs.Numbers.{digit-small}
+use Rattle.control_numbers.proofs.Numbers.{digit-small}
 use Rattle.control_sweeps.proofs.Places.{each-ahead}
 use Rattle.control_sweeps.proofs.Bounds.{set-below, store-below, act-below, each-below, below-more, pick-below, look-below, seek-below, other-below, pair-within}
 use Rattle.control_walk.specs.declared.Walk.{Walk}

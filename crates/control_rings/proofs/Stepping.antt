@@ -16,7 +16,7 @@ use Rattle.steps.specs.Sweeps.{look, seek, store, marked, noneMarked}
 use Rattle.steps.specs.State.{State}
 use Rattle.steps.specs.Steps.{other, digit, step1, step2, step3}
 use Rattle.control_sweeps.specs.Tables.{Marked}
-use Rattle.control_sweeps.proofs.Numbers.{digit-is, other-digit, pairs}
+use Rattle.control_numbers.proofs.Numbers.{digit-is, other-digit, pairs}
 use Rattle.control_walk.specs.declared.Walk.{Walk}
 use Rattle.control_walk.specs.Walks.{state, within}
 use Rattle.control_rings.specs.Turns.{turned}

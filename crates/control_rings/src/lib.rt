@@ -31,8 +31,8 @@ pub fn step1(
     let k = (m + 1) / 2;
     let last = (k - 1) as u16;
     let any = control_sweeps::any_marked(marks, k);
-    let f = control_sweeps::pick(any, w.f, last);
-    let c = control_sweeps::pick(any, w.c, last);
+    let f = control_numbers::pick(any, w.f, last);
+    let c = control_numbers::pick(any, w.c, last);
     let g = control_sweeps::look_at(vals, o, m, f);
     let e = w.e;
     entry_log::write_entry(log, e, 1, o, m);
@@ -60,7 +60,7 @@ pub fn step2(
         → state (now (vals .entry)) ts ms bs r ≡ step2 paper (within o m bit) (state (now (vals .entry)) ts ms bs w)) ⌝ }
 {
     let k = ((m + 1) / 2) as u16;
-    let s = control_sweeps::seek_for(vals, o, m, control_sweeps::other_of(k, w.g));
+    let s = control_sweeps::seek_for(vals, o, m, control_numbers::other_of(k, w.g));
     let e = w.e;
     entry_log::write_entry(log, e, 2, o, m);
     control_walk::Walk {
@@ -78,11 +78,11 @@ fn turn(k: u16, low: u16, w: control_walk::Walk) -> control_walk::Walk
     requires { ⌜ (k ≤ 1024) × (low ≤ 1024) × (w .s < 32768) × (w .c < 32768) × (w .e + 1 < 18446744073709551616) ⌝ }
     ensures { λ r. ⌜ r ≡ turned k low w ⌝ }
 {
-    let f = control_sweeps::other_of(k, w.s);
-    let again = control_sweeps::equal(f, w.c) * control_sweeps::below(low, k);
+    let f = control_numbers::other_of(k, w.s);
+    let again = control_numbers::equal(f, w.c) * control_numbers::below(low, k);
     control_walk::Walk {
-        f: control_sweeps::pick(again, low, f),
-        c: control_sweeps::pick(again, low, w.c),
+        f: control_numbers::pick(again, low, f),
+        c: control_numbers::pick(again, low, w.c),
         g: w.g,
         s: w.s,
         e: w.e + 1,
@@ -107,13 +107,13 @@ pub fn step3(
         (now (marks .entry)) (now (bits .entry)) w)) ⌝ }
 {
     let k = (m + 1) / 2;
-    let pair = control_sweeps::pair_of(k as u16, w.s);
-    let bit = control_sweeps::below(w.s, k as u16);
+    let pair = control_numbers::pair_of(k as u16, w.s);
+    let bit = control_numbers::below(w.s, k as u16);
     control_sweeps::store_at(
         bits,
         w.b,
         k,
-        control_sweeps::switch_of(k as u16, pair),
+        control_numbers::switch_of(k as u16, pair),
         bit as u8,
     );
     let low = control_sweeps::mark_pair(marks, k, pair);

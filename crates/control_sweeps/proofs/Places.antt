@@ -20,7 +20,7 @@ use Rattle.network.specs.Move.{switch}
 use Rattle.steps.specs.Sweeps.{look, seek, store, each, act, marked}
 use Rattle.steps.specs.Steps.{digit}
 use Rattle.control_sweeps.specs.Tables.{Below, Within}
-use Rattle.control_sweeps.proofs.Numbers.{digit-small, digit-byte, digit-is, masked, blend}
+use Rattle.control_numbers.proofs.Numbers.{digit-small, digit-byte, digit-is, masked, blend}
 
 -- a number under the mask of a test to which the hidden zero was added
 pub under : (b : Bool) (z x : ℕ) → z ≡ 0 → x < 65536 → bitAnd x ((boolByte b + z) * 65535) ≡ cond b x 0

@@ -1,113 +1,20 @@
 // Small oblivious functions on tables. The numbers in the tables, and p, a, s, v below, are hidden: no branch and no index
-// depends on one. Each function sweeps all the places that it is given and selects by arithmetic; hidden numbers are 16
-// bits wide, so that a sweep takes several places at a time. Every function is public for the crates of the calls, which
-// have asked their questions before: so it may `require` sizes.
+// depends on one. Each function sweeps all the places that it is given and selects by arithmetic. Every function is public for
+// the crates of the calls, which have asked their questions before: so it may `require` sizes.
 ghost use mathlib.Core.Path.{_≡_};
-ghost use mathlib.Core.Bool.{not, cond};
-ghost use Prim.Native.Nat.{_+_, _*_, _-_, _/_, _%_, _≤_, _<_};
-ghost use lib.Dec.{eqb, ltb};
+ghost use mathlib.Core.Bool.{not};
+ghost use Prim.Native.Nat.{_+_, _*_, _/_, _%_, _≤_, _<_};
+ghost use lib.Dec.{eqb};
 ghost use lib.ListN.{length, getD};
 ghost use Rattle.network.specs.Wiring.{paper};
 ghost use Rattle.steps.specs.Sweeps.{look, seek, store, each, act, noneMarked};
-ghost use Rattle.steps.specs.Steps.{other, digit};
+ghost use Rattle.steps.specs.Steps.{digit};
 ghost use Rattle.control_sweeps.specs.Tables.{Below, Within, Marked};
-
-// ---- numbers
-
-// 1 where a is b or more, else 0, by the carry of a sum: a comparison may be compiled to a jump.
-pub fn at_least(a: u16, b: u16) -> u16
-    requires { ⌜ (a < 32768) × (b < 32768) ⌝ }
-    ensures { λ r. ⌜ r ≡ digit (not (ltb a b)) ⌝ }
-{
-    (a + 32768 - b) / 32768
-}
-
-// 1 where a is below b, else 0.
-pub fn below(a: u16, b: u16) -> u16
-    requires { ⌜ (a < 32768) × (b < 32768) ⌝ }
-    ensures { λ r. ⌜ (r ≡ digit (ltb a b)) × (r < 2) ⌝ }
-{
-    1 - at_least(a, b)
-}
-
-// 1 where a and b are equal, else 0.
-pub fn equal(a: u16, b: u16) -> u16
-    requires { ⌜ (a < 32768) × (b < 32768) ⌝ }
-    ensures { λ r. ⌜ r ≡ digit (eqb a b) ⌝ }
-{
-    at_least(a, b) * at_least(b, a)
-}
-
-// All ones where s is 1, all zeros where s is 0.
-fn mask(s: u16) -> u16
-    requires { ⌜ s < 2 ⌝ }
-    ensures { λ r. ⌜ r ≡ s * 65535 ⌝ }
-{
-    s * 65535
-}
-
-// a where s is 1, b where s is 0.
-pub fn pick(s: u16, a: u16, b: u16) -> u16
-    requires { ⌜ s < 2 ⌝ }
-    ensures { λ r. ⌜ r ≡ cond (eqb s 1) a b ⌝ }
-{
-    let m = mask(s);
-    (a & m) | (b & (65535 - m))
-}
-
-// 1 where a is below b, else 0, by a comparison of signed numbers: with `pick` it is what the compiler knows as a maximum or
-// a minimum, and of signed numbers the machine has one for several places at a time. By `at_least` it would take one.
-fn less(a: u16, b: u16) -> u16
-    requires { ⌜ (a < 32768) × (b < 32768) ⌝ }
-    ensures { λ r. ⌜ r ≡ digit (ltb a b) ⌝ }
-{
-    ((a as i16) < (b as i16)) as u16
-}
-
-// The greater of two, and the smaller, by a mask.
-fn most(a: u16, b: u16) -> u16
-    requires { ⌜ (a < 32768) × (b < 32768) ⌝ }
-    ensures { λ r. ⌜ r ≡ cond (ltb a b) b a ⌝ }
-{
-    pick(less(a, b), b, a)
-}
-
-fn least(a: u16, b: u16) -> u16
-    requires { ⌜ (a < 32768) × (b < 32768) ⌝ }
-    ensures { λ r. ⌜ r ≡ cond (ltb a b) a b ⌝ }
-{
-    pick(less(a, b), a, b)
-}
 
 fn wide(x: u8) -> u16
     ensures { λ r. ⌜ r ≡ x ⌝ }
 {
     x as u16
-}
-
-// The pair of the place p of k pairs; of a value, what it keeps in its half.
-pub fn pair_of(k: u16, p: u16) -> u16
-    requires { ⌜ (k ≤ 1024) × (p < 32768) ⌝ }
-    ensures { λ r. ⌜ r ≡ paper .dec k p .0 ⌝ }
-{
-    p - k * at_least(p, k)
-}
-
-// The other place of p's pair; the associate of the value p.
-pub fn other_of(k: u16, p: u16) -> u16
-    requires { ⌜ (k ≤ 1024) × (p < 32768) ⌝ }
-    ensures { λ r. ⌜ r ≡ other paper k p ⌝ }
-{
-    p + k - 2 * k * at_least(p, k)
-}
-
-// The input switch of a pair of k: its own number, and past the first k numbers for the last pair, which has none. So a
-// sweep of k places stores nothing for it, and is a round number of places where k is.
-pub fn switch_of(k: u16, pair: u16) -> u16
-    requires { ⌜ (0 < k) × (k ≤ 1024) × (pair < 32768) ⌝ }
-    ensures { λ r. ⌜ r ≡ cond (ltb pair (k - 1)) pair (pair + k) ⌝ }
-{
-    pair + k * at_least(pair, k - 1)
 }
 
 // ---- one hidden place or number
@@ -119,11 +26,11 @@ pub fn look_at(xs: &[u16], o: usize, m: usize, p: u16) -> u16
     ensures { λ r. ⌜ r ≡ look (λ i. o + i) m (now (xs .entry)) p ⌝ }
 {
     let z = xs[o] / 32768;
-    let mut g = p & mask(at_least(p, m as u16));
+    let mut g = p & control_numbers::mask(control_numbers::at_least(p, m as u16));
     let mut c = 0u16;
     let mut i = 0;
     while i < m {
-        g = g | (xs[o + i] & mask((c == p) as u16 + z));
+        g = g | (xs[o + i] & control_numbers::mask((c == p) as u16 + z));
         c += 1;
         i += 1;
     }
@@ -139,12 +46,12 @@ pub fn seek_for(xs: &[u16], o: usize, m: usize, a: u16) -> u16
     let mut c = 1u16;
     let mut i = 0;
     while i < m {
-        best = most(c & mask((xs[o + i] == a) as u16), best);
+        best = control_numbers::most(c & control_numbers::mask((xs[o + i] == a) as u16), best);
         c += 1;
         i += 1;
     }
-    let found = at_least(best, 1);
-    pick(found, best - found, a)
+    let found = control_numbers::at_least(best, 1);
+    control_numbers::pick(found, best - found, a)
 }
 
 // Stores a at the hidden place p of the n places from o.
@@ -190,7 +97,7 @@ pub fn mark_pair(marks: &mut [u8], k: usize, p: u16) -> u16
     while i < k {
         let y = marks[i] | ((c == p) as u8);
         marks[i] = y;
-        low = least(low, c + wide(y) * 1024);
+        low = control_numbers::least(low, c + wide(y) * 1024);
         c += 1;
         i += 1;
     }
@@ -221,8 +128,8 @@ pub fn act_on(xs: &mut [u16], o: usize, k: usize, n: usize, bits: &[u8], b: usiz
         let s = wide(bits[b + i]);
         let x = xs[o + i];
         let y = xs[o + (k + i)];
-        xs[o + i] = pick(s, y, x);
-        xs[o + (k + i)] = pick(s, x, y);
+        xs[o + i] = control_numbers::pick(s, y, x);
+        xs[o + (k + i)] = control_numbers::pick(s, x, y);
         i += 1;
     }
 }
@@ -250,7 +157,7 @@ pub fn gain_bits(trails: &mut [u16], o: usize, m: usize, vals: &[u16], k: u16)
     let mut i = 0;
     while i < m {
         let t = trails[o + i];
-        trails[o + i] = t * 2 + at_least(vals[o + i], k);
+        trails[o + i] = t * 2 + control_numbers::at_least(vals[o + i], k);
         i += 1;
     }
 }
@@ -262,7 +169,7 @@ pub fn lose(vals: &mut [u16], o: usize, m: usize, k: u16)
 {
     let mut i = 0;
     while i < m {
-        vals[o + i] = pair_of(k, vals[o + i]);
+        vals[o + i] = control_numbers::pair_of(k, vals[o + i]);
         i += 1;
     }
 }
@@ -279,7 +186,7 @@ pub fn regain(vals: &mut [u16], o: usize, m: usize, trails: &[u16], k: u16)
     let mut i = 0;
     while i < m {
         let v = vals[o + i];
-        vals[o + i] = v + (k & mask(trails[o + i] % 2));
+        vals[o + i] = v + (k & control_numbers::mask(trails[o + i] % 2));
         i += 1;
     }
 }

@@ -6,7 +6,7 @@ use mathlib.Core.Bool.{not}
 use lib.Dec.{eqb}
 use Rattle.counts.specs.Counts.{up}
 use Rattle.steps.specs.Sweeps.{noneMarked}
-use Rattle.control_sweeps.proofs.Numbers.{digit-small}
+use Rattle.control_numbers.proofs.Numbers.{digit-small}
 use Rattle.control_sweeps.proofs.Places.{at-place}
 use Rattle.control_sweeps.proofs.Bounds.{pick-below}
 use Rattle.control_walk.proofs.Going.{went-one}

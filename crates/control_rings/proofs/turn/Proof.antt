@@ -5,7 +5,7 @@ use borrow.Author.Needs.{needs}
 use mathlib.Core.Bool.{false, cond}
 use Prim.Native.Nat.{_*_, _<_}
 use lib.Dec.{ltb, eqb}
-use Rattle.control_sweeps.proofs.Numbers.{digit-small}
+use Rattle.control_numbers.proofs.Numbers.{digit-small}
 use Rattle.control_sweeps.proofs.Bounds.{other-below}
 use Rattle.control_rings.proofs.Stepping.{again-is, turned-is}
 use Rattle.control_rings.proofs.turn.Statement.{statement}

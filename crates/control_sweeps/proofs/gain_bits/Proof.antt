@@ -9,7 +9,7 @@ use lib.ListN.{length, getD, length-set}
 use Rattle.steps.specs.Steps.{digit}
 use Rattle.steps.specs.Sweeps.{each}
 use Rattle.network.specs.Wiring.{paper}
-use Rattle.control_sweeps.proofs.Numbers.{digit-small, pairs}
+use Rattle.control_numbers.proofs.Numbers.{digit-small, pairs}
 use Rattle.control_sweeps.proofs.Places.{each-step, ahead-below, at-place}
 use Rattle.control_sweeps.proofs.gain_bits.Statement.{statement}
 use Rattle.control_sweeps.proofs.gain_bits.Tie as tie

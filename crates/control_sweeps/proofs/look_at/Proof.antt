@@ -7,7 +7,7 @@ use Prim.Native.Nat.{_+_, _-_, _≤_, _<_}
 use lib.Dec.{ltb, eqb}
 use lib.ListN.{getD}
 use Rattle.steps.specs.Steps.{digit}
-use Rattle.control_sweeps.proofs.Numbers.{digit-small, byte-small, masked}
+use Rattle.control_numbers.proofs.Numbers.{digit-small, byte-small, masked}
 use Rattle.control_sweeps.proofs.Places.{Looked, look-none, look-code, look-all}
 use Rattle.control_sweeps.proofs.look_at.Statement.{statement}
 use Rattle.control_sweeps.proofs.look_at.Tie as tie

@@ -8,7 +8,7 @@ use lib.Dec.{eqb}
 use lib.ListN.{length, getD, length-set}
 use Rattle.steps.specs.Steps.{digit}
 use Rattle.steps.specs.Sweeps.{store, marked}
-use Rattle.control_sweeps.proofs.Numbers.{digit-small, byte-small}
+use Rattle.control_numbers.proofs.Numbers.{digit-small, byte-small}
 use Rattle.control_sweeps.proofs.Places.{store-none, store-step, lowOf, low-step, low-within, low-all, final, mark-byte, mark-digit}
 use Rattle.answers.specs.Questions.{firstBad, firstBadFrom}
 use mathlib.Core.List.{List}

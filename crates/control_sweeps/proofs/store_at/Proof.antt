@@ -6,7 +6,7 @@ use Prim.Native.Nat.{_+_, _-_, _≤_, _<_}
 use lib.Dec.{eqb}
 use lib.ListN.{length, getD, length-set}
 use Rattle.steps.specs.Sweeps.{store}
-use Rattle.control_sweeps.proofs.Numbers.{byte-small}
+use Rattle.control_numbers.proofs.Numbers.{byte-small}
 use Rattle.control_sweeps.proofs.Places.{store-none, store-step, store-byte}
 use Rattle.control_sweeps.proofs.store_at.Statement.{statement}
 use Rattle.control_sweeps.proofs.store_at.Tie as tie

@@ -5,9 +5,9 @@ use native.Mathlib.Omega.{arith}
 use mir.Syntax.{w16}
 use mir.ValLaws.{toZ-pos}
 use lib.Dec.{ltb}
-use Rattle.control_sweeps.proofs.Numbers.{digit-byte}
-use Rattle.control_sweeps.proofs.less.Statement.{statement}
-use Rattle.control_sweeps.proofs.less.Tie as tie
+use Rattle.control_numbers.proofs.Numbers.{digit-byte}
+use Rattle.control_numbers.proofs.less.Statement.{statement}
+use Rattle.control_numbers.proofs.less.Tie as tie
 
 cast-result : tie.Need-cast-result
 cast-result c = search needs

@@ -2,9 +2,9 @@
 -- Assumes nothing.
 use native.Mathlib.Omega.{arith}
 use borrow.Author.Needs.{needs}
-use Rattle.control_sweeps.proofs.Numbers.{pairs}
-use Rattle.control_sweeps.proofs.pair_of.Statement.{statement}
-use Rattle.control_sweeps.proofs.pair_of.Tie as tie
+use Rattle.control_numbers.proofs.Numbers.{pairs}
+use Rattle.control_numbers.proofs.pair_of.Statement.{statement}
+use Rattle.control_numbers.proofs.pair_of.Tie as tie
 
 at-least-requires : tie.Need-at-least-requires
 at-least-requires c κs = search needs

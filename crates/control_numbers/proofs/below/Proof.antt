@@ -5,9 +5,9 @@ use borrow.Author.Needs.{needs}
 use mathlib.Core.Path.{refl}
 use mathlib.Core.Bool.{not}
 use lib.Dec.{ltb}
-use Rattle.control_sweeps.proofs.Numbers.{digit-small, other-digit}
-use Rattle.control_sweeps.proofs.below.Statement.{statement}
-use Rattle.control_sweeps.proofs.below.Tie as tie
+use Rattle.control_numbers.proofs.Numbers.{digit-small, other-digit}
+use Rattle.control_numbers.proofs.below.Statement.{statement}
+use Rattle.control_numbers.proofs.below.Tie as tie
 
 at-least-requires : tie.Need-at-least-requires
 at-least-requires c κs = search needs

@@ -1,9 +1,9 @@
 -- The carry of the sum tells whether a is b or more.
 -- Assumes nothing.
 use borrow.Author.Needs.{needs}
-use Rattle.control_sweeps.proofs.Numbers.{carry}
-use Rattle.control_sweeps.proofs.at_least.Statement.{statement}
-use Rattle.control_sweeps.proofs.at_least.Tie as tie
+use Rattle.control_numbers.proofs.Numbers.{carry}
+use Rattle.control_numbers.proofs.at_least.Statement.{statement}
+use Rattle.control_numbers.proofs.at_least.Tie as tie
 
 add-result : tie.Need-add-result
 add-result c = search needs

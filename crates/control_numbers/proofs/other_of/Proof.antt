@@ -2,9 +2,9 @@
 -- Assumes nothing.
 use native.Mathlib.Omega.{arith}
 use borrow.Author.Needs.{needs}
-use Rattle.control_sweeps.proofs.Numbers.{pairs}
-use Rattle.control_sweeps.proofs.other_of.Statement.{statement}
-use Rattle.control_sweeps.proofs.other_of.Tie as tie
+use Rattle.control_numbers.proofs.Numbers.{pairs}
+use Rattle.control_numbers.proofs.other_of.Statement.{statement}
+use Rattle.control_numbers.proofs.other_of.Tie as tie
 
 add-result : tie.Need-add-result
 add-result c = search needs

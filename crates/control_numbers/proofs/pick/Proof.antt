@@ -2,9 +2,9 @@
 -- Assumes nothing.
 use borrow.Author.Needs.{needs}
 use mathlib.Core.Path.{refl}
-use Rattle.control_sweeps.proofs.Numbers.{blend}
-use Rattle.control_sweeps.proofs.pick.Statement.{statement}
-use Rattle.control_sweeps.proofs.pick.Tie as tie
+use Rattle.control_numbers.proofs.Numbers.{blend}
+use Rattle.control_numbers.proofs.pick.Statement.{statement}
+use Rattle.control_numbers.proofs.pick.Tie as tie
 
 mask-requires : tie.Need-mask-requires
 mask-requires c κs = search needs

@@ -5,9 +5,9 @@ use borrow.Author.Needs.{needs}
 use mathlib.Core.Bool.{not}
 use Prim.Native.Nat.{_*_, _<_}
 use lib.Dec.{ltb}
-use Rattle.control_sweeps.proofs.Numbers.{both, product-small}
-use Rattle.control_sweeps.proofs.equal.Statement.{statement}
-use Rattle.control_sweeps.proofs.equal.Tie as tie
+use Rattle.control_numbers.proofs.Numbers.{both, product-small}
+use Rattle.control_numbers.proofs.equal.Statement.{statement}
+use Rattle.control_numbers.proofs.equal.Tie as tie
 
 at-least-requires : tie.Need-at-least-requires
 at-least-requires c κs = search needs

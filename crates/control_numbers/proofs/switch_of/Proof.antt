@@ -2,9 +2,9 @@
 -- Assumes nothing.
 use native.Mathlib.Omega.{arith}
 use borrow.Author.Needs.{needs}
-use Rattle.control_sweeps.proofs.Numbers.{switched}
-use Rattle.control_sweeps.proofs.switch_of.Statement.{statement}
-use Rattle.control_sweeps.proofs.switch_of.Tie as tie
+use Rattle.control_numbers.proofs.Numbers.{switched}
+use Rattle.control_numbers.proofs.switch_of.Statement.{statement}
+use Rattle.control_numbers.proofs.switch_of.Tie as tie
 
 sub-at-least : tie.Need-sub-at-least
 sub-at-least c = search needs
