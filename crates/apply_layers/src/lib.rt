@@ -43,7 +43,7 @@ pub fn layer(
 // The same switches, last to first, as the return does them: entry e has the bit that is as far from the last as e is from 0.
 // The first byte `a` of block i goes down by a width each time. The remainder changes nothing (the blocks have at most
 // 1,024 x 256 bytes), but without it the compiled loop over the bytes would take them one by one (docs/DECISIONS.md).
-// It `requires` what `layer` does, for the same reason.
+// Public for the crate `apply_backward` only; it `requires` what `layer` does, for the same reason.
 pub fn layer_back(
     blocks: &mut [u8],
     width: usize,

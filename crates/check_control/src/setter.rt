@@ -143,27 +143,13 @@ fn set_net(
     }
 }
 
-fn wide(x: u16) -> usize {
-    x as usize
-}
-
-fn load(order: &[u16; 1024]) -> [usize; 1024] {
-    let mut table = [0usize; 1024];
-    let mut i = 0;
-    while i < 1024 {
-        table[i] = wide(order[i]);
-        i += 1;
-    }
-    table
-}
-
 // The canonical setting of an order, into the first bits; those behind stay.
 pub(crate) fn set(
     order: &[u16; 1024],
     nets: &[usize; 12288],
     bits: &mut [u8; counts::MOST_SWITCHES],
 ) {
-    let mut table = load(order);
+    let mut table = tally::widened(order);
     let mut j = 0;
     while j < 1023 {
         if 1 < nets::of(nets, j, nets::SIZE) {

@@ -286,17 +286,6 @@ fn wide(x: u16) -> usize {
     x as usize
 }
 
-// The table starts as the order.
-fn load(order: &[u16; 1024]) -> [usize; 1024] {
-    let mut table = [0usize; 1024];
-    let mut i = 0;
-    while i < 1024 {
-        table[i] = wide(order[i]);
-        i += 1;
-    }
-    table
-}
-
 // Runs the first `count` entries of a log, from an order and bits that are all 0.
 pub(crate) fn run(
     order: &[u16; 1024],
@@ -304,7 +293,7 @@ pub(crate) fn run(
     count: usize,
     bits: &mut [u8; counts::MOST_SWITCHES],
 ) {
-    let mut table = load(order);
+    let mut table = tally::widened(order);
     let mut marks = [0usize; 1024];
     let mut w = Walk {
         f: 0,

@@ -1,2 +1,2 @@
-mod Behind
+mod First
 mod Same

@@ -38,7 +38,7 @@ unfoldable pub after : ℕ → ℕ → ℕ
 after zero x = x
 after (suc i) x = scrambled (after i x)
 
--- n numbers behind x
-pub record Sequence (x n : ℕ) (words : List ℕ) : Type 0 where
+-- n numbers: f 0, f 1, ..
+pub record Holds (f : ℕ → ℕ) (n : ℕ) (words : List ℕ) : Type 0 where
   pub many : length words ≡ n
-  pub each : (i : ℕ) → i < n → getD words i 0 ≡ after (i + 1) x
+  pub each : (i : ℕ) → i < n → getD words i 0 ≡ f i

@@ -3,7 +3,8 @@ use answers::Answer;
 ghost use mathlib.Core.Path.{_≡_};
 ghost use mathlib.Core.Bool.{true};
 ghost use Prim.Native.Nat.{_+_, _^_, _%_, _≤_};
-ghost use Rattle.tally.specs.Tallies.{nothing, one, counted, blockBytes, random, scrambled, Sequence};
+ghost use lib.ListN.{getD};
+ghost use Rattle.tally.specs.Tallies.{nothing, one, counted, blockBytes, random, scrambled, after, Holds};
 
 // How many outcomes were compared, and how many of them were equal.
 pub struct Tally {
@@ -107,7 +108,7 @@ pub fn next(x: u32) -> u32
 
 // The second sequence behind a seed.
 pub fn words(seed: u32) -> [u32; 1024]
-    ensures { λ r. ⌜ Sequence seed 1024 r ⌝ }
+    ensures { λ r. ⌜ Holds (λ i. after (i + 1) seed) 1024 r ⌝ }
 {
     let mut out = [0u32; 1024];
     let mut x = seed;
@@ -118,6 +119,25 @@ pub fn words(seed: u32) -> [u32; 1024]
         i += 1;
     }
     out
+}
+
+// The same numbers, wider.
+pub fn widened(words: &[u16; 1024]) -> [usize; 1024]
+    ensures { λ r. ⌜ Holds (λ i. getD (now (words .entry)) i 0) 1024 r ⌝ }
+{
+    let mut out = [0usize; 1024];
+    let mut i = 0;
+    while i < 1024 {
+        out[i] = wide(words[i]);
+        i += 1;
+    }
+    out
+}
+
+fn wide(x: u16) -> usize
+    ensures { λ r. ⌜ r ≡ x ⌝ }
+{
+    x as usize
 }
 
 // A line with both numbers. What is written out cannot be promised.

@@ -3,21 +3,21 @@
 use borrow.Author.Needs.{needs}
 use mathlib.Core.Path.{_≡_, refl}
 use native.Mathlib.Omega.{arith}
-use Prim.Native.Nat.{_-_, _≤_}
+use Prim.Native.Nat.{_+_, _-_, _≤_}
 use Rattle.tally.specs.Tallies.{after}
-use Rattle.tally.proofs.Behind.{Behind, behind-starts, step, behind-more, behind-all}
+use Rattle.tally.proofs.First.{First, first-none, first-more, first-all, after-more}
 use Rattle.tally.proofs.words.Statement.{statement}
 use Rattle.tally.proofs.words.Tie as tie
 
 abbrev Inv-loop : tie.InvT-loop
-Inv-loop seed out₀ x₀ i₀ out x i = (i ≤ 1024) × (x ≡ after i seed) × Behind seed i out
+Inv-loop seed out₀ x₀ i₀ out x i = (i ≤ 1024) × (x ≡ after i seed) × First (λ j. after (j + 1) seed) i out
 
 abbrev μ-loop : tie.MeasureT-loop
 μ-loop seed out₀ x₀ i₀ out x i = 1024 - i
 
 loop-holds : tie.Need-loop-holds Inv-loop μ-loop
 unfolding after
-loop-holds c = (omega arith, refl, behind-starts _)
+loop-holds c = (omega arith, refl, first-none _)
 
 next-requires : tie.Need-next-requires Inv-loop μ-loop
 next-requires c κs = search needs
@@ -37,11 +37,11 @@ loop-less c = search needs
 loop-again : tie.Need-loop-again Inv-loop μ-loop
 loop-again c =
     let l = c .before .before .loop in
-    let z = step _ (l .i) _ _ (l .inv .1) (c .next .ensures) in
-    (omega arith, z, behind-more _ _ _ _ (omega arith) z (l .inv .2))
+    let z = after-more _ (l .i) _ _ (l .inv .1) (c .next .ensures) in
+    (omega arith, z, first-more _ _ _ _ (omega arith) z (l .inv .2))
 
 returns : tie.Need-returns Inv-loop μ-loop
-returns c = behind-all _ _ _ (omega arith) (c .before .loop .inv .2)
+returns c = first-all _ _ _ (omega arith) (c .before .loop .inv .2)
 
 pub words-spec : {M : Type 1} → statement M
 words-spec =

@@ -11,8 +11,8 @@ Inv-loop order nets bits₀ table₀ j₀ bits table j = j ≤ 1023
 abbrev μ-loop : tie.MeasureT-loop
 μ-loop order nets bits₀ table₀ j₀ bits table j = 1023 - j
 
-load-requires : tie.Need-load-requires Inv-loop μ-loop
-load-requires c κs = search needs
+widened-requires : tie.Need-widened-requires Inv-loop μ-loop
+widened-requires c κs = search needs
 
 loop-holds : tie.Need-loop-holds Inv-loop μ-loop
 loop-holds c = search needs
@@ -41,7 +41,7 @@ set-spec =
     (tie.spec
     Inv-loop
     μ-loop
-    load-requires
+    widened-requires
     loop-holds
     of-requires
     set-net-requires

@@ -11,8 +11,8 @@ Inv-loop order log count bits₀ table₀ marks₀ w₀ e₀ bits table marks w 
 abbrev μ-loop : tie.MeasureT-loop
 μ-loop order log count bits₀ table₀ marks₀ w₀ e₀ bits table marks w e = count - e
 
-load-requires : tie.Need-load-requires Inv-loop μ-loop
-load-requires c κs = search needs
+widened-requires : tie.Need-widened-requires Inv-loop μ-loop
+widened-requires c κs = search needs
 
 loop-holds : tie.Need-loop-holds Inv-loop μ-loop
 loop-holds c = search needs
@@ -71,7 +71,7 @@ run-spec =
     (tie.spec
     Inv-loop
     μ-loop
-    load-requires
+    widened-requires
     loop-holds
     mul-i
     mul-kind
