@@ -1,2 +1,4 @@
 pub mod Decimal
+pub mod Signed
 pub mod Lines
+pub mod Written

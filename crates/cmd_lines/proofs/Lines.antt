@@ -29,7 +29,7 @@ module _ (a : List ℕ) (at : ℕ) (xs ys : List ℕ) (h : at + length (xs ++ ys
   room-rest : {r : ℕ} {b : List ℕ} → Put a at xs r b → r + length ys ≤ length b
   room-rest P = omega (arith, P .place, put-kept room-first P, length-append xs ys)
 
-  put-both : {r : ℕ} {b : List ℕ} {q : ℕ} {c : List ℕ} → Put a at xs r b → Put b r ys q c → Put a at (xs ++ ys) q c
+  pub put-both : {r : ℕ} {b : List ℕ} {q : ℕ} {c : List ℕ} → Put a at xs r b → Put b r ys q c → Put a at (xs ++ ys) q c
   put-both P Q = put-then room-first P Q
 
 -- three parts: the room behind the first for the second, and behind that for the third

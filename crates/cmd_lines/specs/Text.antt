@@ -6,6 +6,7 @@ use Prim.Native.Nat.{ℕ, zero, suc, _+_, _/_, _%_}
 use Prim.Native.Char.{code}
 use Prim.Native.String.{String, [] as empty, _∷_ as _then_}
 use lib.Dec.{ltb, eqb}
+use lib.IntN.{ℤ, pos, negsuc}
 
 -- the bytes of a quoted text
 abbrev pub text : String → List ℕ
@@ -20,6 +21,11 @@ digits (suc d) v = elim (ltb v 10) [ true ↦ (code "0" + v) ∷ [] | false ↦ 
 -- a number in decimal: it has fewer digits than v + 1
 unfoldable pub decimal : ℕ → List ℕ
 decimal v = digits (suc v) v
+
+-- .. and with its sign, where it is below 0 (`negsuc n` is −(n + 1))
+unfoldable pub signed : ℤ → List ℕ
+signed (pos n) = decimal n
+signed (negsuc n) = text "-" ++ decimal (suc n)
 
 -- bits in sequence
 abbrev pub character : ℕ → ℕ

@@ -4,9 +4,10 @@
 ghost use mathlib.Core.Path.{_≡_};
 ghost use mathlib.Core.List.{_++_};
 ghost use Prim.Native.Nat.{_+_, _≤_};
+ghost use lib.IntN.{natAbs};
 ghost use lib.ListN.{length};
 ghost use Rattle.answers.specs.Buffers.{Put};
-ghost use Rattle.cmd_lines.specs.Text.{text, decimal, character, bitsText, line, refusalLine};
+ghost use Rattle.cmd_lines.specs.Text.{text, decimal, signed, character, bitsText, line, refusalLine};
 use answers::Answer;
 
 // The bytes as they are.
@@ -34,6 +35,28 @@ pub fn put_decimal(out: &mut [u8], at: usize, v: usize) -> usize
     let end = put_decimal(out, at, v / 10);
     out[end] = 48 + (v % 10) as u8;
     end + 1
+}
+
+// A number without its sign: of the least z there is, -z is out of range and -1 - z is not.
+fn magnitude(z: i64) -> usize
+    ensures { λ r. ⌜ r ≡ natAbs z ⌝ }
+{
+    if z < 0 {
+        return (-1 - z) as usize + 1;
+    }
+    z as usize
+}
+
+// A number in decimal, with its sign where it is below 0.
+pub fn put_signed(out: &mut [u8], at: usize, z: i64) -> usize
+    requires { ⌜ at + length (signed z) ≤ length (now out) ⌝ }
+    ensures { λ r. ⌜ Put (now (out .entry)) at (signed z) r (now (out .exit)) ⌝ }
+{
+    if z < 0 {
+        let a = put_text(out, at, b"-");
+        return put_decimal(out, a, magnitude(z));
+    }
+    put_decimal(out, at, magnitude(z))
 }
 
 // A bit as a digit.

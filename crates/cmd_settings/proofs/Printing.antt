@@ -1,26 +1,26 @@
 -- The text of an input, return by return of `settings_text`.
 -- Assumes nothing.
 use mathlib.Core.Path.{_≡_, refl, sym, ap, _∙_}
-use mathlib.Core.List.{List, [], _∷_, _++_}
-use Prim.Native.Nat.{ℕ, _+_, _≤_, _<_}
+use mathlib.Core.List.{List}
+use Prim.Native.Nat.{ℕ, _≤_, _<_}
 use native.Mathlib.Omega.{arith}
-use lib.ListN.{length, take, drop, length-append}
+use lib.ListN.{length, take, length-append}
 use lib.Seq.{take-at}
 use Rattle.answers.specs.declared.Answer.{Answer}
 use Rattle.answers.specs.Questions.{Verdict, allYes, noAt, firstNo}
 use Rattle.answers.specs.Outcomes.{answerOf, bufferOf, Outcome, outcome}
-use Rattle.answers.proofs.Buffers.{overlay-front}
 use Rattle.counts.specs.Counts.{W, E}
 use Rattle.answers.specs.Buffers.{Put}
-use Rattle.answers.proofs.Putting.{put-length}
 use Rattle.cmd_lines.specs.Text.{decimal, refusalLine}
+use Rattle.cmd_lines.specs.Written.{written}
 use Rattle.cmd_lines.proofs.Decimal.{digits-few}
 use Rattle.cmd_lines.proofs.Lines.{bits-within}
+use Rattle.cmd_lines.proofs.Written.{text-written}
 use Rattle.network.specs.Wiring.{paper}
 use Rattle.steps.specs.Setting.{settingFor}
 use Rattle.cmd_order.specs.Orders.{countIn, orderIn, orderQuestions, orderSetting, reported, orderReport}
 use Rattle.cmd_order.proofs.Outcomes.{Accepted, order-accepted, report-outcome, report-entries}
-use Rattle.cmd_settings.specs.Settings.{settingLines, textOf, settingsText, Written, written, settingsCall}
+use Rattle.cmd_settings.specs.Settings.{settingLines, textOf, settingsText, settingsCall}
 
 -- ---- room
 
@@ -34,17 +34,7 @@ lines-fit n bits e h g l =
 
 -- a text that was put at the front of the buffer, where it is the input's
 pub prints : (input : List ℕ) {text before after : List ℕ} {r : ℕ} → settingsText input ≡ text → Put before 0 text r after → written r after ≡ settingsCall input before
-unfolding settingsCall
-prints input e P = rw (e, put-length P, P .buffer)
-
--- so it has room there
-pub text-fits : (input before : List ℕ) {after : List ℕ} {r : ℕ} → written r after ≡ settingsCall input before → r ≤ length after
-unfolding settingsCall
-text-fits input before {after} {r} e =
-    let T = settingsText input in
-    let n : r ≡ length T = ap (λ (w : Written). w .count) e in
-    let b : after ≡ T ++ drop (length T) before = ap (λ (w : Written). w .buffer) e ∙ overlay-front before T in
-    omega (arith, n, ap length b, length-append T (drop (length T) before))
+prints input e P = rw e (text-written P)
 
 -- ---- the text
 

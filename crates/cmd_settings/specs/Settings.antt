@@ -2,14 +2,13 @@
 -- Assumes nothing: these are definitions.
 use mathlib.Core.List.{List, _++_}
 use Prim.Native.Nat.{ℕ}
-use lib.ListN.{length}
 use Rattle.answers.specs.Questions.{Verdict, allYes, noAt, firstNo}
-use Rattle.answers.specs.Buffers.{overlay}
 use Rattle.counts.specs.Counts.{E}
 use Rattle.network.specs.Wiring.{paper}
 use Rattle.steps.specs.Setting.{settingFor}
 use Rattle.cmd_order.specs.Orders.{countIn, orderIn, orderQuestions}
 use Rattle.cmd_lines.specs.Text.{decimal, bitsText, line, refusalLine}
+use Rattle.cmd_lines.specs.Written.{Written, printed}
 
 -- ---- the text
 
@@ -27,14 +26,6 @@ settingsText input = textOf (firstNo (orderQuestions input)) input
 
 -- ---- the call
 
--- the number of bytes written, and the buffer
-pub record Written : Type 0 where
-  pub count : ℕ
-  pub buffer : List ℕ
-
-abbrev pub written : ℕ → List ℕ → Written
-written n b = record { count = n; buffer = b }
-
 -- the text over the front of the buffer
-unfoldable pub settingsCall : List ℕ → List ℕ → Written
-settingsCall input buffer = written (length (settingsText input)) (overlay buffer 0 (settingsText input))
+abbrev pub settingsCall : List ℕ → List ℕ → Written
+settingsCall input buffer = printed (settingsText input) buffer

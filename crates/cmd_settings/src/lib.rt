@@ -3,7 +3,8 @@ ghost use mathlib.Core.Path.{_≡_};
 ghost use Prim.Native.Nat.{_≤_};
 ghost use lib.ListN.{length};
 ghost use Rattle.answers.specs.Buffers.{Put};
-ghost use Rattle.cmd_settings.specs.Settings.{settingLines, written, settingsCall};
+ghost use Rattle.cmd_lines.specs.Written.{written};
+ghost use Rattle.cmd_settings.specs.Settings.{settingLines, settingsCall};
 
 // The three lines of an accepted input, over the front of out.
 fn put_lines(out: &mut [u8], n: usize, bits: &[u8], entries: usize) -> usize
