@@ -1,14 +1,14 @@
 -- Blocks cut from bytes: a switch on the bytes of two blocks is a switch on the blocks.
 -- Assumes nothing.
 use mathlib.Core.Path.{_≡_, refl, sym, ap, _∙_}
-use mathlib.Core.Bool.{Bool, true, false, cond}
-use mathlib.Core.List.{List, [], _∷_, _++_, append-assoc, append-nil}
+use mathlib.Core.Bool.{Bool, true, false}
+use mathlib.Core.List.{List, [], _∷_, _++_, append-assoc}
 use Prim.Native.Nat.{ℕ, zero, suc, _+_, _-_, _*_, _%_, _≤_, _<_}
 use native.Mathlib.Nat.{suc-mul, add-mul, one-mul, mul-le-mul, mul-le-mul-right}
 use native.Mathlib.Omega.{arith}
 use lib.Dec.{eqb}
-use lib.ListN.{length, take, drop, getD, set, length-append, length-drop, take-append-drop}
-use lib.Seq.{getD-append-seam, set-append-seam, take-suc, take-all, length-take-le, take-at, drop-at}
+use lib.ListN.{length, take, drop, getD, length-append, length-drop, take-append-drop}
+use lib.Seq.{take-suc, take-all, length-take-le, take-at, drop-at}
 use borrow.Author.Tests.{eqb-true}
 use Rattle.counts.specs.Counts.{up}
 use Rattle.network.specs.Network.{down}
@@ -16,6 +16,7 @@ use Rattle.network.specs.Move.{switch}
 use Rattle.network.specs.Blocks.{cut}
 use Rattle.apply_exchange.specs.Bytes.{bytesSwitched}
 use Rattle.network.proofs.Blocks.{length-cut, cut-append, block-ends}
+use Rattle.network.proofs.Kept.{swap-two, switch-left}
 
 nil : {A : Type 0} (x : List A) → length x ≡ 0 → x ≡ []
 nil [] e = refl
@@ -25,18 +26,6 @@ nil (c ∷ x) e = absurd (omega arith)
 pub cut-block : (w r : ℕ) (x b : List ℕ) → length x ≡ w → cut w (suc r) (x ++ b) ≡ x ∷ cut w r b
 unfolding cut
 cut-block w r x b e = rw (take-at x b w e, drop-at x b w e)
-
--- two items of a list, exchanged by a switch under bit 1
-swap-two : {A : Type 0} (d : A) (e m z : List A) (x y : A)
-    → switch d (length e) (length (e ++ (x ∷ m))) 1 (e ++ (x ∷ (m ++ (y ∷ z)))) ≡ e ++ (y ∷ (m ++ (x ∷ z)))
-unfolding switch
-swap-two d [] m z x y = λ k. getD-append-seam m y z d k ∷ set-append-seam m y z x k
-swap-two d (c ∷ e) m z x y = ap (λ l. c ∷ l) (swap-two d e m z x y)
-
--- another bit leaves the list
-left : {A : Type 0} (d : A) (p q bit : ℕ) (xs : List A) → eqb bit 1 ≡ false → switch d p q bit xs ≡ xs
-unfolding switch
-left d p q bit xs h = rw (switch, h)
 
 last : (x : List ℕ) (j : ℕ) → length x ≡ suc j → x ≡ take j x ++ (getD x j 0 ∷ [])
 last x j e = sym (take-all (suc j) x (omega arith)) ∙ take-suc x j 0 (omega arith)
@@ -73,7 +62,7 @@ exchanged (suc j) a x m y z p gap ex ey ea eq =
 kept : (a gap bit n : ℕ) (bytes : List ℕ) → eqb bit 1 ≡ false → bytesSwitched a gap bit n bytes ≡ bytes
 unfolding bytesSwitched
 kept a gap bit zero bytes h = refl
-kept a gap bit (suc j) bytes h = left 0 (a + j) (a + j + gap) bit (bytesSwitched a gap bit j bytes) h ∙ kept a gap bit j bytes h
+kept a gap bit (suc j) bytes h = switch-left 0 (a + j) (a + j + gap) bit (bytesSwitched a gap bit j bytes) h ∙ kept a gap bit j bytes h
 
 -- the blocks before place p, at p, between, at q and after
 parts : (w p g r : ℕ) (a x m y z : List ℕ) → length a ≡ p * w → length x ≡ w → length m ≡ g * w → length y ≡ w
@@ -113,7 +102,7 @@ cut-switched w m k p bit bytes h l e = go (eqb bit 1) refl
     b = drop (p * w) bytes
 
     go : (t : Bool) → eqb bit 1 ≡ t → cut w m (bytesSwitched (p * w) (k * w) bit w bytes) ≡ switch [] p (k + p) bit (cut w m bytes)
-    go false t = ap (cut w m) (kept (p * w) (k * w) bit w bytes t) ∙ sym (left [] p (k + p) bit (cut w m bytes) t)
+    go false t = ap (cut w m) (kept (p * w) (k * w) bit w bytes t) ∙ sym (switch-left [] p (k + p) bit (cut w m bytes) t)
     go true t =
         let one : bit ≡ 1 = eqb-true bit 1 t in
         let before : suc g ≡ k = omega arith in

@@ -10,3 +10,4 @@ pub mod Order
 pub mod Moved
 pub mod Run
 pub mod RunBack
+pub mod Kept

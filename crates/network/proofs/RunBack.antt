@@ -23,7 +23,7 @@ use Rattle.network.proofs.Undo.{forward-backward}
 use Rattle.network.proofs.Run.{runFrom-append, runApply-append, run-apply}
 
 -- all places of the entries are below n
-data Below (n : ℕ) : List Entry → Type 0 where
+pub data Below (n : ℕ) : List Entry → Type 0 where
   empty : Below n []
   also : {e : Entry} {es : List Entry} → e .first < n → e .second < n → Below n es → Below n (e ∷ es)
 
@@ -54,7 +54,7 @@ below-switches {w} L {m} (some {top = top} {bottom = bottom} two t u) n place h 
     (below-switches L u n (λ j. place (w .enc (up m) (j, true))) (λ j l. h (w .enc (up m) (j, true)) (lies-below L m (j, true) (lies-both m (j, true) l))))
     (below-layer w n (λ p. place (w .enc (up m) p)) (down m) (both (down m) (omega arith)))))
 
-below-apply : {w : Wiring} → Lawful w → (n : ℕ) → Below n (applyEntries w n)
+pub below-apply : {w : Wiring} → Lawful w → (n : ℕ) → Below n (applyEntries w n)
 unfolding applyEntries
 below-apply L n = below-switches L (sized n) n (λ q. q) (λ q h. h)
 
@@ -112,7 +112,7 @@ module _ {A : Type 0} (d : A) where
       go true = switch-twice (e .first) (e .second) bit xs p q
       go false = refl
 
-  length-runEntry : (bit : ℕ) (e : Entry) (xs : List A) → length (runEntry d bit e xs) ≡ length xs
+  pub length-runEntry : (bit : ℕ) (e : Entry) (xs : List A) → length (runEntry d bit e xs) ≡ length xs
   unfolding runEntry
   length-runEntry bit e xs = go (eqb (e .kind) 7)
     where
