@@ -3,3 +3,4 @@ pub mod Settled
 pub mod Demands
 pub mod Carrying
 pub mod Month
+pub mod Charts

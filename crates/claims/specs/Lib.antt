@@ -2,3 +2,4 @@ pub mod Calls
 pub mod Demands
 pub mod Carrying
 pub mod Month
+pub mod Charts
