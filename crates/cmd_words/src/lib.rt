@@ -11,6 +11,7 @@ pub enum Program {
     Unmix,
     Show,
     Settings,
+    Chart,
 }
 
 // How to call a program, over the front of line.
@@ -28,6 +29,7 @@ pub fn usage_text(program: Program, line: &mut [u8; 53]) -> usize
         ),
         Program::Show => cmd_lines::put_text(line, 0, b"usage: show SHEET\n"),
         Program::Settings => cmd_lines::put_text(line, 0, b"usage: settings < ORDER\n"),
+        Program::Chart => cmd_lines::put_text(line, 0, b"usage: chart < BLOCKS\n"),
     }
 }
 
@@ -44,6 +46,7 @@ fn put_name(program: Program, out: &mut [u8]) -> usize
         Program::Unmix => cmd_lines::put_text(out, 0, b"unmix"),
         Program::Show => cmd_lines::put_text(out, 0, b"show"),
         Program::Settings => cmd_lines::put_text(out, 0, b"settings"),
+        Program::Chart => cmd_lines::put_text(out, 0, b"chart"),
     }
 }
 

@@ -59,6 +59,15 @@ slice-aggregate-put-text-6 c = search needs
 put-text-requires-6 : tie.Need-put-text-requires-6
 put-text-requires-6 c κs = search needs
 
+enum-told-7 : tie.Need-enum-told-7
+enum-told-7 c = search needs
+
+slice-aggregate-put-text-7 : tie.Need-slice-aggregate-put-text-7
+slice-aggregate-put-text-7 c = search needs
+
+put-text-requires-7 : tie.Need-put-text-requires-7
+put-text-requires-7 c κs = search needs
+
 same-length : tie.Need-same-length
 same-length c = search needs
 
@@ -95,6 +104,12 @@ same-length-6 c = search needs
 returns-6 : tie.Need-returns-6
 returns-6 c = (rw (c .before .before .before .before .before .enum-told6 .given .1) (c .before .before .put-text6 .ensures), omega (arith, c .before .before .put-text6 .ensures .place))
 
+same-length-7 : tie.Need-same-length-7
+same-length-7 c = search needs
+
+returns-7 : tie.Need-returns-7
+returns-7 c = (rw (c .before .before .before .before .before .enum-told7 .given .1) (c .before .before .put-text7 .ensures), omega (arith, c .before .before .put-text7 .ensures .place))
+
 pub put-name-spec : {M : Type 1} → statement M
 put-name-spec =
     tie.close
@@ -117,6 +132,9 @@ put-name-spec =
     enum-told-6
     slice-aggregate-put-text-6
     put-text-requires-6
+    enum-told-7
+    slice-aggregate-put-text-7
+    put-text-requires-7
     same-length
     returns
     same-length-2
@@ -128,4 +146,6 @@ put-name-spec =
     same-length-5
     returns-5
     same-length-6
-    returns-6)
+    returns-6
+    same-length-7
+    returns-7)

@@ -58,6 +58,15 @@ slice-aggregate-put-text-6 c = search needs
 put-text-requires-6 : tie.Need-put-text-requires-6
 put-text-requires-6 c κs = search needs
 
+enum-told-7 : tie.Need-enum-told-7
+enum-told-7 c = search needs
+
+slice-aggregate-put-text-7 : tie.Need-slice-aggregate-put-text-7
+slice-aggregate-put-text-7 c = search needs
+
+put-text-requires-7 : tie.Need-put-text-requires-7
+put-text-requires-7 c κs = search needs
+
 returns : tie.Need-returns
 returns c = rw (c .before .before .before .enum-told .given .1) (c .put-text .ensures)
 
@@ -75,6 +84,9 @@ returns-5 c = rw (c .before .before .before .enum-told5 .given .1) (c .put-text5
 
 returns-6 : tie.Need-returns-6
 returns-6 c = rw (c .before .before .before .enum-told6 .given .1) (c .put-text6 .ensures)
+
+returns-7 : tie.Need-returns-7
+returns-7 c = rw (c .before .before .before .enum-told7 .given .1) (c .put-text7 .ensures)
 
 pub usage-text-spec : {M : Type 1} → statement M
 usage-text-spec =
@@ -98,9 +110,13 @@ usage-text-spec =
     enum-told-6
     slice-aggregate-put-text-6
     put-text-requires-6
+    enum-told-7
+    slice-aggregate-put-text-7
+    put-text-requires-7
     returns
     returns-2
     returns-3
     returns-4
     returns-5
-    returns-6)
+    returns-6
+    returns-7)
