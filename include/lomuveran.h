@@ -33,7 +33,7 @@ extern "C" {
 enum {
     LOMUVERAN_ACCEPTED = 0,
     LOMUVERAN_TOO_MANY_PLACES = 1, /* is n at most 1,024? */
-    LOMUVERAN_WIDTH = 2,           /* is the block width 1 to 256 bytes? */
+    LOMUVERAN_WIDTH = 2,           /* is the block width 1 to 256 bytes (of a gauge's report: 6)? */
     LOMUVERAN_BLOCKS = 3,          /* do the blocks fill exactly n * width bytes? */
     LOMUVERAN_BIT_COUNT = 4,       /* are there exactly as many bit bytes as switches (reading a sheet: at least)? */
     LOMUVERAN_LOG = 5,             /* has the log at least 3 words for each entry due? */
@@ -100,6 +100,25 @@ typedef struct lomuveran_number {
 } lomuveran_number;
 
 lomuveran_number lomuveran_read_number(const uint8_t *input, size_t input_len, size_t at);
+
+/* ---- the chart */
+
+/* The figures of a gauge. count: its readings; mean: their sum / count, rounded towards minus infinity; remainder:
+ * sum - mean * count. All six are 0 where the call is refused, and where no block is of the gauge. */
+typedef struct lomuveran_report {
+    lomuveran_answer answer;
+    size_t count;
+    int64_t least;
+    int64_t greatest;
+    int64_t sum;
+    int64_t mean;
+    int64_t remainder;
+} lomuveran_report;
+
+/* The figures of a gauge in n blocks as they lie, mixed or at home. A block is 6 bytes: a gauge number of 16 bits and a reading
+ * in microstrain of 32 bits with a sign, low byte first in both. block_bytes: n * 6. Questions 1, 2 (is the width 6?), 3.
+ * The answer's count: 0. */
+lomuveran_report lomuveran_gauge_report(size_t n, size_t width, const uint8_t *blocks, size_t block_bytes, uint16_t gauge);
 
 /* ---- permutations: len entries. An accepted call leaves the new permutation in the entries that it was lent to write. Each
  * asks 1 and 6 of every permutation that it is handed, the first one first. Count 0, but for fixed_points. */

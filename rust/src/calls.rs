@@ -146,3 +146,38 @@ pub fn read_number(input: &[u8], at: usize) -> Result<Number, Refusal> {
     let ffi::Number { answer, value, next } = unsafe { ffi::lomuveran_read_number(input.as_ptr(), input.len(), at) };
     answer.count().map(|_| Number { value, next })
 }
+
+/// What the readings of a gauge come to, in microstrain. All six are 0 where there is none.
+#[derive(Clone, Copy, Debug, Default, PartialEq, Eq)]
+pub struct Figures {
+    /// How many readings there are.
+    pub count: usize,
+    /// The least of them.
+    pub least: i64,
+    /// The greatest.
+    pub greatest: i64,
+    /// Their sum.
+    pub sum: i64,
+    /// The sum divided by the count, rounded towards minus infinity.
+    pub mean: i64,
+    /// What the sum has beyond the mean times the count.
+    pub remainder: i64,
+}
+
+/// The figures of a gauge in n blocks as they lie, mixed or at home. A block is 6 bytes: a gauge number of 16 bits and a reading
+/// in microstrain of 32 bits with a sign, low byte first in both. Questions 1, 2 (is the width 6?), 3.
+///
+/// ```
+/// // gauge 7 reads -1, gauge 513 reads 2, gauge 7 reads -2
+/// let blocks = [7, 0, 255, 255, 255, 255, 1, 2, 2, 0, 0, 0, 7, 0, 254, 255, 255, 255];
+/// let figures = lomuveran::gauge_report(3, 6, &blocks, 7).unwrap();
+/// assert_eq!((figures.count, figures.least, figures.greatest), (2, -2, -1));
+/// assert_eq!((figures.sum, figures.mean, figures.remainder), (-3, -2, 1));
+/// assert_eq!(lomuveran::gauge_report(3, 6, &blocks, 8), Ok(lomuveran::Figures::default()));
+/// ```
+pub fn gauge_report(n: usize, width: usize, blocks: &[u8], gauge: u16) -> Result<Figures, Refusal> {
+    // SAFETY: as above.
+    let report = unsafe { ffi::lomuveran_gauge_report(n, width, blocks.as_ptr(), blocks.len(), gauge) };
+    let ffi::Report { answer, count, least, greatest, sum, mean, remainder } = report;
+    answer.count().map(|_| Figures { count, least, greatest, sum, mean, remainder })
+}

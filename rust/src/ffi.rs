@@ -26,6 +26,17 @@ pub struct Number {
     pub next: usize,
 }
 
+#[repr(C)]
+pub struct Report {
+    pub answer: Answer,
+    pub count: usize,
+    pub least: i64,
+    pub greatest: i64,
+    pub sum: i64,
+    pub mean: i64,
+    pub remainder: i64,
+}
+
 extern "C" {
     pub fn lomuveran_switches(n: usize) -> Answer;
     pub fn lomuveran_entries(n: usize) -> Answer;
@@ -61,6 +72,7 @@ extern "C" {
     pub fn lomuveran_write_sheet(n: usize, bits: *const u8, bit_count: usize, out: *mut u8, out_len: usize) -> Answer;
     pub fn lomuveran_read_sheet(input: *const u8, input_len: usize, bits: *mut u8, bit_count: usize) -> Answer;
     pub fn lomuveran_read_number(input: *const u8, input_len: usize, at: usize) -> Number;
+    pub fn lomuveran_gauge_report(n: usize, width: usize, blocks: *const u8, block_bytes: usize, gauge: u16) -> Report;
     pub fn lomuveran_permutation_identity(entries: *mut u16, len: usize) -> Answer;
     pub fn lomuveran_permutation_from_list(list: *const u16, len: usize) -> Answer;
     pub fn lomuveran_permutation_exchange(entries: *mut u16, len: usize, i: usize, j: usize) -> Answer;

@@ -13,7 +13,10 @@ mod permutation;
 mod refusal;
 mod setting;
 
-pub use calls::{apply, apply_inverse, control_bits, entries, read_number, read_sheet, shuffle, switches, write_sheet, Number};
+pub use calls::{
+    apply, apply_inverse, control_bits, entries, gauge_report, read_number, read_sheet, shuffle, switches, write_sheet,
+    Figures, Number,
+};
 pub use permutation::Permutation;
 pub use refusal::Refusal;
 pub use setting::{Entry, Setting};

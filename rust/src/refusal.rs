@@ -20,7 +20,7 @@ impl Refusal {
     pub fn text(self) -> &'static str {
         match self.question {
             1 => "there are more than 1,024 places",
-            2 => "the block width is not 1 to 256 bytes",
+            2 => "the block width is not 1 to 256 bytes (for a gauge's report: not 6)",
             3 => "the blocks do not fill exactly n × width bytes",
             4 => "there are not as many bit bytes as switches",
             5 => "the log has less than 3 words for an entry due",

@@ -3,18 +3,20 @@
 // call.
 use capi_values::CAnswer;
 use capi_values::CNumber;
+use capi_values::CReport;
 use permutation_record::Permutation;
 ghost use mathlib.Core.Path.{_≡_};
 ghost use lib.ListN.{length};
 ghost use Rattle.answers.specs.Outcomes.{outcome, logged};
 ghost use Rattle.apply.specs.Calls.{applyCall, inverseCall};
+ghost use Rattle.gauges.specs.Calls.{reportCall};
 ghost use Rattle.sheets.specs.Calls.{writeSheet, readSheet};
 ghost use Rattle.control.specs.Calls.{setCall};
 ghost use Rattle.counts.specs.Counts.{W, E};
 ghost use Rattle.numbers.specs.Numbers.{numberAt};
 ghost use Rattle.permutation_record.specs.Records as records;
 ghost use Rattle.shuffle.specs.Shuffled.{shuffleCall};
-ghost use Rattle.capi_values.specs.Crossing.{answerIn, numberIn, recordIn, lent, counted};
+ghost use Rattle.capi_values.specs.Crossing.{answerIn, numberIn, reportIn, recordIn, lent, counted};
 
 // 01: set.
 #[no_mangle]
@@ -87,6 +89,21 @@ pub extern "C" fn lomuveran_read_number(input: &[u8], at: usize) -> CNumber
     ensures { λ r. ⌜ numberIn r ≡ numberAt (now (input .entry)) at ⌝ }
 {
     capi_values::tell_number(numbers::read_number(input, at))
+}
+
+// ---- the chart
+
+// 02, F-1: the figures of a gauge, from blocks as they lie.
+#[no_mangle]
+pub extern "C" fn lomuveran_gauge_report(
+    n: usize,
+    width: usize,
+    blocks: &[u8],
+    gauge: u16,
+) -> CReport
+    ensures { λ r. ⌜ reportIn r ≡ reportCall n width (now (blocks .entry)) gauge ⌝ }
+{
+    capi_values::tell_report(gauges::gauge_report(n, width, blocks, gauge))
 }
 
 // ---- counts, for callers who must size their buffers: question 1, then the count

@@ -8,12 +8,15 @@ use lib.ListN.{length, getD}
 use Rattle.answers.specs.declared.Answer.{Answer}
 use Rattle.answers.specs.Questions.{ask, firstNo}
 use Rattle.answers.specs.Outcomes.{Outcome, answerOf, outcome}
+use Rattle.gauges.specs.declared.Figures.{Figures}
+use Rattle.gauges.specs.declared.GaugeReport.{GaugeReport}
 use Rattle.numbers.specs.Numbers.{NumberAnswer}
 use Rattle.permutation.specs.Permutations.{tabulate}
 use Rattle.permutation_record.specs.declared.Permutation.{Permutation}
 use Rattle.permutation_record.specs.declared.Reply.{Reply}
 use Rattle.capi_values.specs.declared.CAnswer.{CAnswer}
 use Rattle.capi_values.specs.declared.CNumber.{CNumber}
+use Rattle.capi_values.specs.declared.CReport.{CReport}
 
 -- ---- answers
 
@@ -24,6 +27,21 @@ answerIn r = record { number = r .number; place = r .place; count = r .count }
 -- the number reader's
 abbrev pub numberIn : CNumber → NumberAnswer
 numberIn r = record { answer = answerIn (r .answer); value = r .value; next = r .next }
+
+-- a gauge's report
+abbrev pub figuresIn : CReport → Figures
+figuresIn r =
+    record {
+      count = r .count;
+      least = r .least;
+      greatest = r .greatest;
+      sum = r .sum;
+      mean = r .mean;
+      remainder = r .remainder;
+    }
+
+abbrev pub reportIn : CReport → GaugeReport
+reportIn r = record { answer = answerIn (r .answer); figures = figuresIn r }
 
 -- an asking of a count of n places: question 1, then the count
 abbrev pub counted : (ℕ → ℕ) → ℕ → Answer

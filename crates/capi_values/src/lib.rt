@@ -1,5 +1,6 @@
-// What crosses between the calls for C (crate capi) and the crates that do the work: answers, the number reader's answer and
-// the entries of a permutation.
+// What crosses between the calls for C (crate capi) and the crates that do the work: answers, the number reader's answer, a
+// gauge's report and the entries of a permutation.
+use gauges::GaugeReport;
 use numbers::ReadNumber;
 use permutation_record::Permutation;
 use permutation_record::Reply;
@@ -7,7 +8,7 @@ ghost use mathlib.Core.Path.{_≡_};
 ghost use lib.ListN.{length, getD};
 ghost use Rattle.answers.specs.Outcomes.{outcome};
 ghost use Rattle.numbers.specs.Reading.{meaning};
-ghost use Rattle.capi_values.specs.Crossing.{answerIn, numberIn, recordIn, spread, lent};
+ghost use Rattle.capi_values.specs.Crossing.{answerIn, numberIn, reportIn, recordIn, spread, lent};
 
 // An answer as C lays it out.
 #[repr(C)]
@@ -50,6 +51,34 @@ pub fn tell_number(r: ReadNumber) -> CNumber
         answer,
         value,
         next,
+    }
+}
+
+// The answer of a gauge's report, with its six numbers.
+#[repr(C)]
+pub struct CReport {
+    pub answer: CAnswer,
+    pub count: usize,
+    pub least: i64,
+    pub greatest: i64,
+    pub sum: i64,
+    pub mean: i64,
+    pub remainder: i64,
+}
+
+pub fn tell_report(r: GaugeReport) -> CReport
+    ensures { λ c. ⌜ reportIn c ≡ r ⌝ }
+{
+    let answer = tell(r.answer);
+    let f = r.figures;
+    CReport {
+        answer,
+        count: f.count,
+        least: f.least,
+        greatest: f.greatest,
+        sum: f.sum,
+        mean: f.mean,
+        remainder: f.remainder,
     }
 }
 
