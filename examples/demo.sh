@@ -1,4 +1,4 @@
-# The steps of `lomuveran demo`, in a folder in which there is a copy of the month alone.
+# The steps of `lomuveran demo`, in a folder in which there are a copy of the month and one of the gauges' blocks alone.
 # shellcheck shell=sh
 say "A month is a file of blocks of one width: here $(wc -l <month) lines of 40 bytes, a line a block. It begins:"
 head -n 4 month
@@ -13,6 +13,12 @@ say '' 'Whoever brings the sheet gets the month back:'
 step return 40 month.mixed month.sheet month.back || return
 head -n 4 month.back
 cmp month month.back || return 3
-say 'month.back is month, to the byte.' '' 'What cannot be done is refused in words, with a status of its own:'
+say 'month.back is month, to the byte.'
+say '' "Blocks of 6 bytes, each a gauge's number and a reading, have a chart: in a line the gauge, and of its readings the count, the" \
+    'least, the greatest, the sum, the mean and the remainder. It needs no sheet: mixed, the blocks give the same.'
+step chart gauges || return
+step mix 6 gauges || return
+step chart gauges.mixed || return
+say '' 'What cannot be done is refused in words, with a status of its own:'
 step mix 41 month 2>&1
 say "(status $?)" '' 'These files were in a folder for the demonstration alone, which is removed now.'

@@ -53,6 +53,7 @@ def names(door):
         door.call(0, 'return', '2', name + '.mixed', name + '.sheet', '-o', files=made | {'-o': MADE}, err='')
         same(door.read('-o'), b'abcdef', f'{name!r} put back')
         door.call(0, 'show', name + '.sheet', files=made | {'-o': MADE}, err='', out='places 3\n')
+        door.call(0, 'chart', name, files=made | {'-o': MADE}, err='', out='25185 1 ')  # ab, low byte first
         door.write('-c', door.call(0, 'card', name + '.sheet', files=made | {'-o': MADE}, err='').encode())
         door.call(0, 'type', '-c', '-s', files=made | {'-o': MADE, '-c': 0o644, '-s': MADE}, err='')
         same(door.read('-s'), door.read(name + '.sheet'), f'{name!r}: the sheet typed')
@@ -103,7 +104,7 @@ def refusals(door):
     for name, why in ('none', 'there is no such file'), ('folder', 'this is a folder, not a file'), ('pipe', 'this is not a plain file'), \
             ('', 'there is no such file'):
         for args in ('mix', '1', name), ('return', '1', name, 'sheet', 'out'), ('return', '1', 'mixed', name, 'out'), ('show', name), \
-                ('settings', name), ('card', name), ('type', name, 'out'):
+                ('settings', name), ('chart', name), ('card', name), ('type', name, 'out'):
             no(3, f'{name}: {why}', *args)
     no(3, 'none/out: no file can be made in its folder: No such file or directory', 'return', '2', 'mixed', 'sheet', 'none/out')
     no(3, 'month/out: no file can be made in its folder: Not a directory', 'return', '2', 'mixed', 'sheet', 'month/out')
@@ -119,6 +120,7 @@ def usage_lines(no):
     for args, line in (['mix'], 'mix WIDTH MONTH..'), (['mix', '6'], 'mix WIDTH MONTH..'), (['show'], 'show SHEET'), \
             (['show', 'a', 'b'], 'show SHEET'), (['return', '6', 'a', 'b'], 'return WIDTH MIXED SHEET OUT'), \
             (['return', '6', 'a', 'b', 'c', 'd'], 'return WIDTH MIXED SHEET OUT'), (['settings'], 'settings ORDER'), \
+            (['chart'], 'chart BLOCKS'), (['chart', 'a', 'b'], 'chart BLOCKS'), \
             (['card'], 'card SHEET'), (['type', 'a'], 'type CARD SHEET'), (['demo', 'a'], 'demo'):
         no(2, 'usage: lomuveran ' + line, *args)
     no(2, "lomuveran: there is no command 'remix'; lomuveran help lists them", 'remix')
@@ -159,6 +161,24 @@ def orders(door):
             (b'\x02\xac\x02\0', 'entry 0, counted from 0, is 300, which is not below 2 (question 6)')]:
         door.fresh(order=order)
         door.call(1, 'settings', 'order', files={'order': 0o644}, err='order: ' + why, out='')
+
+
+def charts(door):
+    blocks = b'\1\2\xf9\xff\xff\xff' + b'\7\0\0\0\0\x80' + b'\1\2\5\0\0\0'  # gauge 513 reads -7 and 5, gauge 7 the least
+    must = '7 1 -2147483648 -2147483648 -2147483648 -2147483648 0\n513 2 -7 5 -2 -1 0\n'
+    door.fresh(blocks=blocks)
+    same(door.call(0, 'chart', 'blocks', files={'blocks': 0o644}, err=''), must, 'a chart')
+    door.run('mix', '6', 'blocks')
+    same(door.call(0, 'chart', 'blocks.mixed', files=door.files(), err=''), must, 'the chart of the mixed blocks')
+    for size, why in (6145, 'it has 6145 bytes, and 1024 blocks of 6 bytes are the most, which are 6144 bytes (question 1)'), \
+            (12000, 'it has 12000 bytes, and 1024 blocks of 6 bytes are the most, which are 6144 bytes (question 1)'), \
+            (7, '7 bytes are not a whole number of 6-byte blocks (question 3)'), \
+            (6143, '6143 bytes are not a whole number of 6-byte blocks (question 3)'):
+        door.fresh(blocks=bytes(size))
+        door.call(1, 'chart', 'blocks', files={'blocks': 0o644}, err='blocks: ' + why, out='')
+    door.fresh(blocks=bytes(6144), none=b'')
+    same(door.call(0, 'chart', 'blocks', files=door.files(), err=''), '0 1024 0 0 0 0 0\n', 'a chart of 1024 blocks')
+    same(door.call(0, 'chart', 'none', files=door.files(), err='none: it is empty, and so is its chart'), '', 'a chart of no blocks')
 
 
 # ---- several months
@@ -260,13 +280,14 @@ def demo(door):
     said = door.call(0, 'demo', files={}, env=os.environ | {'TMPDIR': door.at})
     for text in 'month.back is month, to the byte.', '$ lomuveran card month.sheet', '(status 1)':
         same(text in said, True, f'the demonstration says: {text}')
+    same(said.count('\n12 4 -261 96 -345 -87 3\n'), 2, 'the demonstration has the chart at home and mixed')
     help_ = door.call(0, 'help', files={}, err='')
     same(door.run()[::2], (2, help_), 'without an argument')
 
 
 def main():
     root, shells = sys.argv[1], sys.argv[2:]
-    tried = [whole_job, names, by_links, refusals, damaged_sheets, orders, several, cards, typing_errors, demo, *door_trouble.TRIED]
+    tried = [whole_job, names, by_links, refusals, damaged_sheets, orders, charts, several, cards, typing_errors, demo, *door_trouble.TRIED]
     for shell in shells:
         with tempfile.TemporaryDirectory() as scratch:
             os.chmod(scratch, 0o755)

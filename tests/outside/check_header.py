@@ -8,9 +8,9 @@ import re
 import subprocess
 import sys
 
-NUMBERS = {'u8': 'uint8_t', 'u16': 'uint16_t', 'u32': 'uint32_t', 'usize': 'size_t'}
-STRUCTS = {'CAnswer': 'lomuveran_answer', 'CNumber': 'lomuveran_number',  # capi's and the Rust package's names
-           'Answer': 'lomuveran_answer', 'Number': 'lomuveran_number'}
+NUMBERS = {'u8': 'uint8_t', 'u16': 'uint16_t', 'u32': 'uint32_t', 'usize': 'size_t', 'i64': 'int64_t'}
+STRUCTS = {f'{of}{name}': f'lomuveran_{name.lower()}' for name in ('Answer', 'Number', 'Report')
+           for of in ('C', '')}  # capi's and the Rust package's names
 
 
 def bare(text):

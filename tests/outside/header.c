@@ -1,5 +1,5 @@
 /* The header against the library: sizes and layout, each prototype, an accepted call of each, every refusal of the calls on
- * permutations, and memory around what is lent. Compiled as C and as C++. */
+ * permutations and of the chart, and memory around what is lent. Compiled as C and as C++. */
 #include "lomuveran.h"
 
 #include <stdio.h>
@@ -39,6 +39,7 @@ static lomuveran_answer (*const of_draw)(size_t, const uint32_t *, size_t, uint1
 static lomuveran_answer (*const of_write)(size_t, const uint8_t *, size_t, uint8_t *, size_t) = lomuveran_write_sheet;
 static lomuveran_answer (*const of_read)(const uint8_t *, size_t, uint8_t *, size_t) = lomuveran_read_sheet;
 static lomuveran_number (*const of_number)(const uint8_t *, size_t, size_t) = lomuveran_read_number;
+static lomuveran_report (*const of_report)(size_t, size_t, const uint8_t *, size_t, uint16_t) = lomuveran_gauge_report;
 
 static void layout(void) {
     SAME(sizeof(size_t), 8);
@@ -48,6 +49,13 @@ static void layout(void) {
     SAME(sizeof(lomuveran_number), 40);
     SAME(offsetof(lomuveran_number, value), 24);
     SAME(offsetof(lomuveran_number, next), 32);
+    SAME(sizeof(lomuveran_report), 72);
+    SAME(offsetof(lomuveran_report, count), 24);
+    SAME(offsetof(lomuveran_report, least), 32);
+    SAME(offsetof(lomuveran_report, greatest), 40);
+    SAME(offsetof(lomuveran_report, sum), 48);
+    SAME(offsetof(lomuveran_report, mean), 56);
+    SAME(offsetof(lomuveran_report, remainder), 64);
     ANSWER(of_count[0](LOMUVERAN_MAX_PLACES), LOMUVERAN_ACCEPTED, 0, LOMUVERAN_MAX_SWITCHES);
     ANSWER(of_count[1](LOMUVERAN_MAX_PLACES), LOMUVERAN_ACCEPTED, 0, LOMUVERAN_MAX_ENTRIES);
     ANSWER(of_count[0](LOMUVERAN_MAX_PLACES + 1), LOMUVERAN_TOO_MANY_PLACES, 0, 0);
@@ -116,6 +124,43 @@ static void refusals(void) {
     ALIKE(out, drawn);
 }
 
+/* ---- the chart: gauge 513 reads -7, 2 and 1, gauge 7 the least and the greatest that there can be, gauge 65535 the least */
+
+#define LOW (-2147483647 - 1)
+#define MOST ((size_t)-1)
+
+static void charts(void) {
+    static const uint8_t blocks[36] = {0x01, 0x02, 0xf9, 0xff, 0xff, 0xff, 0x07, 0x00, 0x00, 0x00, 0x00, 0x80,
+                                       0x01, 0x02, 0x02, 0x00, 0x00, 0x00, 0xff, 0xff, 0x00, 0x00, 0x00, 0x80,
+                                       0x07, 0x00, 0xff, 0xff, 0xff, 0x7f, 0x01, 0x02, 0x01, 0x00, 0x00, 0x00};
+    static const struct {
+        size_t n, width, bytes;
+        uint16_t gauge;
+        size_t number;
+        int64_t six[6];
+    } cases[] = {
+        {6, 6, 36, 513, 0, {3, -7, 2, -4, -2, 2}},
+        {6, 6, 36, 7, 0, {2, LOW, 2147483647, -1, -1, 1}},
+        {6, 6, 36, 65535, 0, {1, LOW, LOW, LOW, LOW, 0}},
+        {6, 6, 36, 258, 0, {0}},
+        {0, 6, 0, 513, 0, {0}},
+        {1025, 5, 36, 513, LOMUVERAN_TOO_MANY_PLACES, {0}},
+        {MOST, 6, 36, 513, LOMUVERAN_TOO_MANY_PLACES, {0}},
+        {6, 5, 30, 513, LOMUVERAN_WIDTH, {0}},
+        {6, 7, 36, 513, LOMUVERAN_WIDTH, {0}},
+        {6, MOST, 36, 513, LOMUVERAN_WIDTH, {0}},
+        {6, 6, 35, 513, LOMUVERAN_BLOCKS, {0}},
+        {1024, 6, 36, 513, LOMUVERAN_BLOCKS, {0}},
+    };
+    size_t i, k;
+    for (i = 0; i < sizeof cases / sizeof *cases; i++) {
+        const lomuveran_report is = of_report(cases[i].n, cases[i].width, blocks, cases[i].bytes, cases[i].gauge);
+        const int64_t six[6] = {(int64_t)is.count, is.least, is.greatest, is.sum, is.mean, is.remainder};
+        ANSWER(is.answer, cases[i].number, 0, 0);
+        for (k = 0; k < 6; k++) SAME((size_t)six[k], (size_t)cases[i].six[k]);
+    }
+}
+
 /* ---- permutations: every call with a good and a bad list, a list too long, and both records in their sequence */
 
 static void permutations(void) {
@@ -173,6 +218,7 @@ int main(void) {
     layout();
     mixing();
     refusals();
+    charts();
     permutations();
     printf("compared %d answers and buffers from C, %d wrong\n", compared, wrong);
     return wrong != 0;

@@ -1,7 +1,7 @@
 // Accepted calls of the library with their secrets marked undefined, to be run under valgrind (see `run`).
-//   driver set|mix|return N,N.. WIDTH,WIDTH.. SEED
-// Secret are the order's entries (set), the bits and the bytes of the blocks (mix, return). SEED 0: the order that moves
-// nothing, or bits and bytes 0; 1: the reverse order, or bits and bytes 1; else drawn.
+//   driver set|mix|return|chart N,N.. WIDTH,WIDTH.. SEED
+// Secret are the order's entries (set), the bits and the bytes of the blocks (mix, return), the bytes of the blocks (chart).
+// SEED 0: the order that moves nothing, or bits and bytes 0; 1: the reverse order, or bits and bytes 1; else drawn.
 #include "lomuveran.h"
 #include <stdio.h>
 #include <stdlib.h>
@@ -68,11 +68,27 @@ static void one(char op, size_t n, size_t width, size_t seed) {
     free(order), free(kept), free(log), free(log2), free(blocks), free(was), free(bits);
 }
 
+// a gauge's report on drawn blocks of four gauges
+static void chart(size_t n, size_t width, size_t seed) {
+    uint8_t *blocks = room(n * width);
+    state = seed;
+    for (size_t i = 0; i < n * width; i++) blocks[i] = (uint8_t)drawn(i % width < 2 ? 2 : 256);
+    hide(blocks, n * width);
+    trace_begins();
+    lomuveran_report r = lomuveran_gauge_report(n, width, blocks, n * width, 1);
+    trace_ends();
+    in_answer += depends(&r.answer, sizeof r.answer);
+    wrong += r.answer.number != 0;
+    calls++, asked += n > 0;
+    free(blocks);
+}
+
 int main(int argc, char **argv) {
     if (argc != 5) return 2;
     for (char *n = argv[2]; n; n = strchr(n, ',') ? strchr(n, ',') + 1 : 0)
         for (char *w = argv[3]; w; w = strchr(w, ',') ? strchr(w, ',') + 1 : 0)
-            one(argv[1][0], strtoul(n, 0, 10), strtoul(w, 0, 10), strtoul(argv[4], 0, 10));
+            if (argv[1][0] == 'c') chart(strtoul(n, 0, 10), strtoul(w, 0, 10), strtoul(argv[4], 0, 10));
+            else one(argv[1][0], strtoul(n, 0, 10), strtoul(w, 0, 10), strtoul(argv[4], 0, 10));
     printf("%zu calls, %zu with secrets, %zu wrong, %zu log bytes and %zu answer bytes from a secret\n", calls, asked, wrong,
            in_log, in_answer);
     return wrong ? 5 : in_log || in_answer ? 4 : 0;
