@@ -2,18 +2,14 @@
 -- Assumes nothing.
 use mathlib.Core.Path.{_≡_, refl, sym, ap, _∙_}
 use mathlib.Core.Logic.{_≢_}
-use mathlib.Core.List.{List, [], _∷_, _++_, append-nil}
-use Prim.Native.Nat.{ℕ, suc, _+_, _^_, _≤_, _<_}
+use mathlib.Core.List.{List, _++_, append-nil}
+use Prim.Native.Nat.{ℕ, suc, _+_, _≤_, _<_}
 use native.Mathlib.Numerals.{add-one}
 use native.Mathlib.Omega.{arith}
 use lib.IntN.{ℤ}
 use lib.ListN.{length, getD, set, drop, length-set, drop-of-length-le}
 use lib.Seq.{drop-cons}
-use lib.Signed.{mag}
 use borrow.Author.Tests.{le-leb, lt-leb, eq-eqb, ne-eqb}
-use mir.Syntax.{w64}
-use mir.Val.{ofZ, toZ}
-use mir.Facts.{toZ-ofZ}
 use Rattle.answers.specs.declared.Answer.{Answer}
 use Rattle.answers.specs.Answers.{refusal, accepted}
 use Rattle.answers.specs.Outcomes.{Outcome, outcome, Logged, logged}
@@ -48,10 +44,6 @@ module _ {r : ReadNumber} {told : Answer} (same : told ≡ answerOf r) where
 
   pub number-given : {v n : ℕ} → r ≡ Number v n → record { answer = told; value = v; next = n } ≡ meaning r
   number-given e = rw (same, e)
-
--- a number with a sign is kept as its bits, and read back from them
-pub back : {z : ℤ} → mag z < 2 ^ 63 → toZ w64 (ofZ w64 z) ≡ z
-back {z} fits = toZ-ofZ {w = w64} {z = z} (record { sfits = fits })
 
 pub report-given : (r : GaugeReport) {told : Answer} {least greatest sum mean remainder : ℤ} → told ≡ r .answer
     → least ≡ r .figures .least → greatest ≡ r .figures .greatest → sum ≡ r .figures .sum → mean ≡ r .figures .mean

@@ -3,7 +3,7 @@
 use mathlib.Core.Bool.{Bool, true, false, cond}
 use mathlib.Core.Path.{_≡_, refl, sym, ap, _∙_}
 use mathlib.Core.List.{List, [], _∷_, _++_}
-use Prim.Native.Nat.{ℕ, suc, _-_, _<_}
+use Prim.Native.Nat.{ℕ, suc, _-_, _*_, _<_}
 use native.Mathlib.Omega.{arith}
 use native.Mathlib.Decide.{decLt}
 use lib.Dec.{eqb}
@@ -13,9 +13,12 @@ use borrow.Author.Tests.{eqb-true}
 use Rattle.network.specs.Wiring.{Wiring, Lawful}
 use Rattle.network.specs.Network.{network}
 use Rattle.network.specs.Move.{switch, forward, backward}
+use Rattle.network.specs.Blocks.{cut, moved, movedBack}
 use Rattle.network.specs.Log.{Entry, runEntry, runFrom, runApply}
 use Rattle.network.proofs.Shape.{length-backward}
+use Rattle.network.proofs.Blocks.{length-cut}
 use Rattle.network.proofs.Undo.{forward-backward}
+use Rattle.network.proofs.Moved.{cut-moved, cut-movedBack, length-moved, length-movedBack}
 use Rattle.network.proofs.Run.{run-apply}
 use Rattle.network.proofs.RunBack.{Below, empty, also, below-apply, length-runEntry}
 
@@ -135,3 +138,22 @@ module _ {A : Type 0} (d : A) {B : Type 0} (F : List A → B) (keeps : Kept d F)
     backward-keeps xs e =
         let ys = backward d w (network n) bits xs in
         sym (forward-keeps ys (length-backward d w n bits xs e)) ∙ ap F (forward-backward d L n bits xs e)
+
+-- what bytes tell (G) by no more than their length and what their blocks keep (F), mix and return keep
+module _
+    {B C : Type 0} (F : List (List ℕ) → B) (keeps : Kept [] F) (G : List ℕ → C) (n width : ℕ) (bytes : List ℕ)
+    (full : length bytes ≡ n * width)
+    (by : (left : List ℕ) → length left ≡ n * width → F (cut width n left) ≡ F (cut width n bytes) → G left ≡ G bytes)
+    {w : Wiring} (L : Lawful w) (bits : List ℕ)
+  where
+    pub moved-keeps : G (moved w n width bits bytes) ≡ G bytes
+    moved-keeps =
+        by (moved w n width bits bytes) (length-moved L n width bits bytes full)
+        (ap F (cut-moved L n width bits bytes full)
+        ∙ forward-keeps [] F keeps L n bits (cut width n bytes) (length-cut width n bytes))
+
+    pub movedBack-keeps : G (movedBack w n width bits bytes) ≡ G bytes
+    movedBack-keeps =
+        by (movedBack w n width bits bytes) (length-movedBack L n width bits bytes full)
+        (ap F (cut-movedBack L n width bits bytes full)
+        ∙ backward-keeps [] F keeps L n bits (cut width n bytes) (length-cut width n bytes))
