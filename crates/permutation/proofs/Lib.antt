@@ -4,3 +4,4 @@ pub mod Pigeons
 pub mod Tables
 pub mod Inverses
 pub mod Laws
+pub mod Counts

@@ -14,7 +14,7 @@ use Rattle.answers.proofs.Questions.{all-good, none-bad}
 use Rattle.permutation.specs.Permutations.{matches, goodEntry, firstBadEntry, IsPermutation}
 use Rattle.permutation.proofs.Sweeps.{none-passes, all-fail, same-count}
 
-both-true : (a b : Bool) → (a && b) ≡ true → (a ≡ true) × (b ≡ true)
+pub both-true : (a b : Bool) → (a && b) ≡ true → (a ≡ true) × (b ≡ true)
 both-true true true e = (refl, refl)
 both-true true false e = (refl, e)
 both-true false b e = absurd (let z : _≡_ {A = ℕ} 0 1 = cc in omega arith)

@@ -47,6 +47,11 @@ module _ (test : ℕ → Bool) where
   all-fail zero h = refl
   all-fail (suc n) h = rw (h n (omega arith), all-fail n (λ i l. h i (omega arith)))
 
+  pub all-pass : (n : ℕ) → ((i : ℕ) → i < n → test i ≡ true) → howMany test n ≡ n
+  unfolding howMany
+  all-pass zero h = refl
+  all-pass (suc n) h = rw (h n (omega arith), all-pass n (λ i l. h i (omega arith))) (omega arith)
+
 pub same-count : (f g : ℕ → Bool) (n : ℕ) → ((i : ℕ) → i < n → f i ≡ g i) → howMany f n ≡ howMany g n
 unfolding howMany
 same-count f g zero h = refl
