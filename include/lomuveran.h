@@ -3,15 +3,16 @@
  *
  * Each call asks its questions in a fixed sequence and answers the number of the first that gets a no; success is number 0.
  * A refused call writes nothing, an accepted one nothing beyond what is said here. Any number, any length and any contents may
- * be handed in: what does not fit is refused.
+ * be handed in: what does not fit is refused (but permutation_fixed_points tells whatever number it is handed).
  *
  * What the caller owes, as everywhere in C: a pointer is aligned, is not NULL even where the length behind it is 0, and points
  * to as many items as that length says; what a call may write overlaps nothing else that the same call is handed.
  *
- * Stack: at 1,024 places the calls need at most 12 KB of it (control_bits 11.3, permutation_combine 10.6, the other calls on
- * permutations 6.5, write_sheet 4.8, read_sheet 3.5, apply_inverse 3.2, apply 2.7, the others 2.1 or less), as bench/stack reads from
- * the object code. For a thread allow 20 KB, which holds the C library's own needs too: its first memcpy, where it is linked
- * dynamically, takes some KB more (permutation_combine ran in 18 KB and not in 17, control_bits, apply, write_sheet, inverse in 16). No heap. */
+ * Stack: at 1,024 places the calls need at most 12 KB of it (control_bits 11.3, permutation_combine 10.6, permutation_exchange
+ * and permutation_inverse 6.5, write_sheet 4.8, permutation_identity 4.5, read_sheet 3.5, apply_inverse 3.2, apply 2.7, the
+ * others 2.1 or less), as bench/stack reads from the object code. For a thread allow 20 KB, which holds the C library's own needs
+ * too: its first memcpy, where it is linked dynamically, takes some KB more (permutation_combine ran in 18 KB and not in 17; the
+ * other calls on permutations, control_bits, apply and write_sheet in 16). No heap. */
 #ifndef LOMUVERAN_H
 #define LOMUVERAN_H
 
@@ -37,7 +38,8 @@ enum {
     LOMUVERAN_BLOCKS = 3,          /* do the blocks fill exactly n * width bytes? */
     LOMUVERAN_BIT_COUNT = 4,       /* are there exactly as many bit bytes as switches (reading a sheet: at least)? */
     LOMUVERAN_LOG = 5,             /* has the log at least 3 words for each entry due? */
-    LOMUVERAN_ENTRY = 6,           /* is each entry below n and unlike all earlier ones? place: the first bad index */
+    LOMUVERAN_ENTRY = 6,           /* is each entry below n and unlike all earlier ones? place: the first bad index. Then, of a
+                                    * record: is its number how many entries stay home? place: 1,024 */
     LOMUVERAN_BIT = 7,             /* is every bit byte 0 or 1? place: the first bad index */
     LOMUVERAN_NO_BYTE = 8,         /* does the input hold the number's next byte? place: the input's length */
     LOMUVERAN_NUMBER = 9,          /* is the number in its shortest form, at most two bytes? place: its first byte */
@@ -120,26 +122,36 @@ typedef struct lomuveran_report {
  * The answer's count: 0. */
 lomuveran_report lomuveran_gauge_report(size_t n, size_t width, const uint8_t *blocks, size_t block_bytes, uint16_t gauge);
 
-/* ---- permutations: len entries. An accepted call leaves the new permutation in the entries that it was lent to write. Each
- * asks 1 and 6 of every permutation that it is handed, the first one first. Count 0, but for fixed_points. */
+/* ---- permutations: a record is its len entries and fixed, the number of those that stay home (entry i is i). Both are handed
+ * in; an accepted call leaves the new entries in those that it was lent to write and gives their number, which is the true one.
+ * Each but fixed_points asks 1 and 6 of every record that it is handed, the first one first. 6 asks of all entries, then of the
+ * number, which is refused at place 1,024 where it is wrong. Count 0, but for fixed_points. */
+
+/* fixed: of the new record; where the call is refused that of the first record, as it was handed in, or 0 where none was. */
+typedef struct lomuveran_record {
+    lomuveran_answer answer;
+    size_t fixed;
+} lomuveran_record;
 
 /* Each place to itself. Question 1. */
-lomuveran_answer lomuveran_permutation_identity(uint16_t *entries, size_t len);
+lomuveran_record lomuveran_permutation_identity(uint16_t *entries, size_t len);
 
-/* Whether a list is a permutation of at most 1,024 places: it is then one as it stands. */
-lomuveran_answer lomuveran_permutation_from_list(const uint16_t *list, size_t len);
+/* Whether a list is a permutation of at most 1,024 places: it is then one as it stands, with the number given. Questions 1, 6. */
+lomuveran_record lomuveran_permutation_from_list(const uint16_t *list, size_t len);
 
 /* Entries i and j exchanged. Then question 14. */
-lomuveran_answer lomuveran_permutation_exchange(uint16_t *entries, size_t len, size_t i, size_t j);
+lomuveran_record lomuveran_permutation_exchange(uint16_t *entries, size_t len, size_t fixed, size_t i, size_t j);
 
 /* First, then second: first[i] becomes second[first[i]]. Then question 15. */
-lomuveran_answer lomuveran_permutation_combine(uint16_t *first, size_t first_len, const uint16_t *second, size_t second_len);
+lomuveran_record lomuveran_permutation_combine(uint16_t *first, size_t first_len, size_t first_fixed, const uint16_t *second,
+                                               size_t second_len, size_t second_fixed);
 
 /* The inverse. */
-lomuveran_answer lomuveran_permutation_inverse(uint16_t *entries, size_t len);
+lomuveran_record lomuveran_permutation_inverse(uint16_t *entries, size_t len, size_t fixed);
 
-/* Count: how many entries stay home. */
-lomuveran_answer lomuveran_permutation_fixed_points(const uint16_t *entries, size_t len);
+/* Count: fixed, true or not. Question 1 only: the entries are not looked at, so even what is no permutation is not refused, and
+ * the time does not grow with len. */
+lomuveran_answer lomuveran_permutation_fixed_points(const uint16_t *entries, size_t len, size_t fixed);
 
 #ifdef __cplusplus
 }

@@ -37,6 +37,19 @@ pub struct Report {
     pub remainder: i64,
 }
 
+#[repr(C)]
+pub struct Record {
+    pub answer: Answer,
+    pub fixed: usize,
+}
+
+impl Record {
+    /// The number of the record that an accepted call gives.
+    pub fn fixed(self) -> Result<usize, Refusal> {
+        self.answer.count().map(|_| self.fixed)
+    }
+}
+
 extern "C" {
     pub fn lomuveran_switches(n: usize) -> Answer;
     pub fn lomuveran_entries(n: usize) -> Answer;
@@ -73,10 +86,17 @@ extern "C" {
     pub fn lomuveran_read_sheet(input: *const u8, input_len: usize, bits: *mut u8, bit_count: usize) -> Answer;
     pub fn lomuveran_read_number(input: *const u8, input_len: usize, at: usize) -> Number;
     pub fn lomuveran_gauge_report(n: usize, width: usize, blocks: *const u8, block_bytes: usize, gauge: u16) -> Report;
-    pub fn lomuveran_permutation_identity(entries: *mut u16, len: usize) -> Answer;
-    pub fn lomuveran_permutation_from_list(list: *const u16, len: usize) -> Answer;
-    pub fn lomuveran_permutation_exchange(entries: *mut u16, len: usize, i: usize, j: usize) -> Answer;
-    pub fn lomuveran_permutation_combine(first: *mut u16, first_len: usize, second: *const u16, second_len: usize) -> Answer;
-    pub fn lomuveran_permutation_inverse(entries: *mut u16, len: usize) -> Answer;
-    pub fn lomuveran_permutation_fixed_points(entries: *const u16, len: usize) -> Answer;
+    pub fn lomuveran_permutation_identity(entries: *mut u16, len: usize) -> Record;
+    pub fn lomuveran_permutation_from_list(list: *const u16, len: usize) -> Record;
+    pub fn lomuveran_permutation_exchange(entries: *mut u16, len: usize, fixed: usize, i: usize, j: usize) -> Record;
+    pub fn lomuveran_permutation_combine(
+        first: *mut u16,
+        first_len: usize,
+        first_fixed: usize,
+        second: *const u16,
+        second_len: usize,
+        second_fixed: usize,
+    ) -> Record;
+    pub fn lomuveran_permutation_inverse(entries: *mut u16, len: usize, fixed: usize) -> Record;
+    pub fn lomuveran_permutation_fixed_points(entries: *const u16, len: usize, fixed: usize) -> Answer;
 }

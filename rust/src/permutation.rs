@@ -18,6 +18,8 @@ use crate::{ffi, Refusal, MAX_PLACES};
 #[derive(Clone, Debug, PartialEq, Eq, Hash)]
 pub struct Permutation {
     entries: Vec<u16>,
+    // how many entries stay home, as the library told it with these entries: so it refuses none of the calls below
+    fixed: usize,
 }
 
 impl Permutation {
@@ -26,15 +28,20 @@ impl Permutation {
         // one entry too many is refused as any more would be
         let mut entries = vec![0; n.min(MAX_PLACES + 1)];
         // SAFETY: a pointer goes with its slice's length; the borrows keep two slices apart. The same holds below.
-        unsafe { ffi::lomuveran_permutation_identity(entries.as_mut_ptr(), entries.len()) }.count()?;
-        Ok(Permutation { entries })
+        let fixed = unsafe { ffi::lomuveran_permutation_identity(entries.as_mut_ptr(), entries.len()) }.fixed()?;
+        Ok(Permutation { entries, fixed })
+    }
+
+    // The number of a list that is a permutation.
+    fn fixed_of(list: &[u16]) -> Result<usize, Refusal> {
+        // SAFETY: as above.
+        unsafe { ffi::lomuveran_permutation_from_list(list.as_ptr(), list.len()) }.fixed()
     }
 
     /// A list that has each of its places once. Questions 1, 6.
     pub fn from_list(list: &[u16]) -> Result<Permutation, Refusal> {
-        // SAFETY: as above.
-        unsafe { ffi::lomuveran_permutation_from_list(list.as_ptr(), list.len()) }.count()?;
-        Ok(Permutation { entries: list.to_vec() })
+        let fixed = Permutation::fixed_of(list)?;
+        Ok(Permutation { entries: list.to_vec(), fixed })
     }
 
     /// An order from as many random words as it has places. Question 1.
@@ -46,38 +53,42 @@ impl Permutation {
     pub fn shuffle(words: &[u32]) -> Result<Permutation, Refusal> {
         let mut entries = vec![0; words.len().min(MAX_PLACES)];
         crate::shuffle(words.len(), words, &mut entries)?;
-        Ok(Permutation { entries })
+        let fixed = Permutation::fixed_of(&entries).expect("what is drawn is a permutation");
+        Ok(Permutation { entries, fixed })
     }
 
     /// Exchanges entries i and j. Question 14.
     pub fn exchange(&mut self, i: usize, j: usize) -> Result<(), Refusal> {
+        let Permutation { entries, fixed } = self;
         // SAFETY: as above.
-        unsafe { ffi::lomuveran_permutation_exchange(self.entries.as_mut_ptr(), self.entries.len(), i, j) }.count().map(drop)
+        *fixed = unsafe { ffi::lomuveran_permutation_exchange(entries.as_mut_ptr(), entries.len(), *fixed, i, j) }.fixed()?;
+        Ok(())
     }
 
     /// First this one, then the second: entry i is `second[self[i]]`. Question 15.
     pub fn combine(&self, second: &Permutation) -> Result<Permutation, Refusal> {
         let mut entries = self.entries.clone();
-        let then = &second.entries;
+        let (first, n, then) = (entries.as_mut_ptr(), entries.len(), &second.entries);
         // SAFETY: as above.
-        unsafe { ffi::lomuveran_permutation_combine(entries.as_mut_ptr(), entries.len(), then.as_ptr(), then.len()) }
-            .count()?;
-        Ok(Permutation { entries })
+        let record =
+            unsafe { ffi::lomuveran_permutation_combine(first, n, self.fixed, then.as_ptr(), then.len(), second.fixed) };
+        Ok(Permutation { fixed: record.fixed()?, entries })
     }
 
     /// Entry v is the place that goes to v.
     pub fn inverse(&self) -> Permutation {
         let mut entries = self.entries.clone();
         // SAFETY: as above.
-        let answer = unsafe { ffi::lomuveran_permutation_inverse(entries.as_mut_ptr(), entries.len()) };
-        answer.count().expect("a permutation is never refused");
-        Permutation { entries }
+        let record = unsafe { ffi::lomuveran_permutation_inverse(entries.as_mut_ptr(), entries.len(), self.fixed) };
+        let fixed = record.fixed().expect("a permutation is never refused");
+        Permutation { entries, fixed }
     }
 
-    /// How many entries stay home.
+    /// How many entries stay home. Takes the same time for any number of places: it is kept with the entries, not counted.
     pub fn fixed_points(&self) -> usize {
+        let list = &self.entries;
         // SAFETY: as above.
-        let answer = unsafe { ffi::lomuveran_permutation_fixed_points(self.entries.as_ptr(), self.entries.len()) };
+        let answer = unsafe { ffi::lomuveran_permutation_fixed_points(list.as_ptr(), list.len(), self.fixed) };
         answer.count().expect("a permutation is never refused")
     }
 

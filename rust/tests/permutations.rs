@@ -6,21 +6,28 @@ mod common;
 use common::{all_orders, plain, seen, words, Random, Tally};
 use lomuveran::{Permutation, Refusal};
 
-fn list(result: Result<Permutation, Refusal>) -> Result<Vec<u16>, (usize, usize)> {
-    result.map(|p| p.entries().to_vec()).map_err(|refusal| (refusal.question, refusal.place))
+/// The entries, and the number that goes with them.
+type Listed = Result<(Vec<u16>, usize), (usize, usize)>;
+
+fn list(result: Result<Permutation, Refusal>) -> Listed {
+    result.map(|p| (p.entries().to_vec(), p.fixed_points())).map_err(|refusal| (refusal.question, refusal.place))
+}
+
+fn must(list: Result<Vec<u16>, (usize, usize)>) -> Listed {
+    list.map(|entries| (entries.clone(), plain::at_home(&entries)))
 }
 
 fn calls(tally: &mut Tally, random: &mut Random, a: &[u16], b: &[u16]) {
     let (p, q) = (Permutation::from_list(a).unwrap(), Permutation::from_list(b).unwrap());
-    tally.same(list(p.combine(&q)), plain::combine(a, b), (a, b));
-    tally.same(list(Ok(p.inverse())), Ok(plain::inverse(a)), a);
-    tally.same(p.fixed_points(), (0..a.len()).filter(|i| a[*i] as usize == *i).count(), a);
+    tally.same(list(Ok(p.clone())), must(Ok(a.to_vec())), a);
+    tally.same(list(p.combine(&q)), must(plain::combine(a, b)), (a, b));
+    tally.same(list(Ok(p.inverse())), must(Ok(plain::inverse(a))), a);
     let (i, j) = (random.below(a.len() + 2), random.below(a.len() + 2));
     let mut changed = p.clone();
-    let is = changed.exchange(i, j).map(|()| changed.entries().to_vec()).map_err(|r| (r.question, r.place));
-    let must = plain::exchange(a, i, j);
-    tally.same(changed.entries(), must.as_ref().map_or(a, |m| &m[..]), (a, i, j));
-    tally.same(is, must, (a, i, j));
+    let is = changed.exchange(i, j).map(|()| changed.clone());
+    let wanted = plain::exchange(a, i, j);
+    tally.same(list(Ok(changed)), must(Ok(wanted.clone().unwrap_or(a.to_vec()))), (a, i, j));
+    tally.same(list(is), must(wanted), (a, i, j));
 }
 
 #[test]
@@ -45,10 +52,59 @@ fn of_every_size() {
         calls(&mut tally, &mut random, &a, &b);
     }
     for n in (0..=1030).chain([65536, usize::MAX]) {
-        let must = if n <= 1024 { Ok((0..n as u16).collect()) } else { Err((1, 0)) };
-        tally.same(list(Permutation::identity(n)), must, n);
+        let wanted = if n <= 1024 { Ok((0..n as u16).collect()) } else { Err((1, 0)) };
+        tally.same(list(Permutation::identity(n)), must(wanted), n);
     }
     tally.say("permutations of up to 1,024 places");
+}
+
+/// An operation on the permutation, and on the list that it must hold. The second of a combination is mostly the identity but for
+/// a few exchanges, so that many entries stay home.
+fn step(random: &mut Random, p: &mut Permutation, order: &mut Vec<u16>) {
+    let n = order.len();
+    let two = (random.below(n + 1), random.below(n + 1));
+    match random.below(4) {
+        0 | 1 => {
+            if let Ok(exchanged) = plain::exchange(order, two.0, two.1) {
+                *order = exchanged;
+                p.exchange(two.0, two.1).unwrap();
+            } else {
+                assert_eq!(p.exchange(two.0, two.1).map_err(|refusal| refusal.question), Err(14));
+            }
+        }
+        2 => {
+            *order = plain::inverse(order);
+            *p = p.inverse();
+        }
+        _ => {
+            let mut second = if random.below(3) == 0 { random.order(n) } else { (0..n as u16).collect() };
+            (0..3).for_each(|k| second = plain::exchange(&second, k, two.0).unwrap_or(second.clone()));
+            *order = plain::combine(order, &second).unwrap();
+            *p = p.combine(&Permutation::from_list(&second).unwrap()).unwrap();
+        }
+    }
+}
+
+#[test]
+fn chains() {
+    let (mut tally, mut random) = (Tally::default(), Random(25));
+    for n in [0, 1, 2, 5, 6, 100, 1023, 1024] {
+        for start in 0..4 {
+            let given: Vec<u32> = (0..n).map(|_| random.word() as u32).collect();
+            let mut p = match start {
+                0 => Permutation::identity(n).unwrap(),
+                1 => Permutation::shuffle(&given).unwrap(),
+                _ => Permutation::from_list(&random.order(n)).unwrap(),
+            };
+            let mut order = p.entries().to_vec();
+            for k in 0..50 {
+                step(&mut random, &mut p, &mut order);
+                tally.same(list(Ok(p.clone())), must(Ok(order.clone())), (n, start, k));
+                tally.same(&p, &Permutation::from_list(&order).unwrap(), (n, start, k));
+            }
+        }
+    }
+    tally.say("permutations along chains of operations");
 }
 
 #[test]
@@ -59,7 +115,7 @@ fn lists_valid_and_damaged() {
         for n in 0..6 {
             tally.same(
                 list(Permutation::from_list(&all[..n])),
-                plain::record(&all[..n]).map(|()| all[..n].to_vec()),
+                must(plain::record(&all[..n]).map(|()| all[..n].to_vec())),
                 &all[..n],
             );
         }
@@ -71,7 +127,7 @@ fn lists_valid_and_damaged() {
             let at = random.below(n);
             order[at] = random.below(n + 2) as u16;
         }
-        tally.same(list(Permutation::from_list(&order)), plain::record(&order).map(|()| order.clone()), &order);
+        tally.same(list(Permutation::from_list(&order)), must(plain::record(&order).map(|()| order.clone())), &order);
     }
     tally.say("lists, valid and damaged");
 }
@@ -84,11 +140,11 @@ fn draws() {
         let given: Vec<u32> =
             (0..n.saturating_add_signed([0, 0, 0, 1, -1][random.below(5)])).map(|_| random.word() as u32).collect();
         let room = n.saturating_add_signed([0, 1, 40, -1][random.below(4)]);
-        let must = plain::shuffle(n, &given, room);
+        let drawn = plain::shuffle(n, &given, room);
         let mut out = words(&random.words(room));
-        tally.outcome(seen(lomuveran::shuffle(n, &given, out.part())), plain::outcome(&must, Vec::len), (n, room));
-        out.check(&mut tally, &must.unwrap_or_default(), (n, room));
-        tally.same(list(Permutation::shuffle(&given)), plain::shuffle(given.len(), &given, usize::MAX), n);
+        tally.outcome(seen(lomuveran::shuffle(n, &given, out.part())), plain::outcome(&drawn, Vec::len), (n, room));
+        out.check(&mut tally, &drawn.unwrap_or_default(), (n, room));
+        tally.same(list(Permutation::shuffle(&given)), must(plain::shuffle(given.len(), &given, usize::MAX)), n);
     }
     tally.say_questions("outcomes and buffers of draws", &[0, 1, 13, 16]);
 }

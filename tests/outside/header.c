@@ -29,6 +29,13 @@ static void alike(const void *is, const void *must, size_t bytes, const char *wh
         same(got.count, c, #a " .count", __LINE__); \
     } while (0)
 
+#define RECORD(r, n, p, f) \
+    do { \
+        lomuveran_record had = r; \
+        ANSWER(had.answer, n, p, 0); \
+        same(had.fixed, f, #r " .fixed", __LINE__); \
+    } while (0)
+
 /* ---- the types: an assignment of another type is an error under -Werror */
 
 static lomuveran_answer (*const of_count[])(size_t) = {lomuveran_switches, lomuveran_entries};
@@ -40,6 +47,12 @@ static lomuveran_answer (*const of_write)(size_t, const uint8_t *, size_t, uint8
 static lomuveran_answer (*const of_read)(const uint8_t *, size_t, uint8_t *, size_t) = lomuveran_read_sheet;
 static lomuveran_number (*const of_number)(const uint8_t *, size_t, size_t) = lomuveran_read_number;
 static lomuveran_report (*const of_report)(size_t, size_t, const uint8_t *, size_t, uint16_t) = lomuveran_gauge_report;
+static lomuveran_record (*const of_fresh)(uint16_t *, size_t) = lomuveran_permutation_identity;
+static lomuveran_record (*const of_list)(const uint16_t *, size_t) = lomuveran_permutation_from_list;
+static lomuveran_record (*const of_exchange)(uint16_t *, size_t, size_t, size_t, size_t) = lomuveran_permutation_exchange;
+static lomuveran_record (*const of_combine)(uint16_t *, size_t, size_t, const uint16_t *, size_t, size_t) = lomuveran_permutation_combine;
+static lomuveran_record (*const of_inverse)(uint16_t *, size_t, size_t) = lomuveran_permutation_inverse;
+static lomuveran_answer (*const of_home)(const uint16_t *, size_t, size_t) = lomuveran_permutation_fixed_points;
 
 static void layout(void) {
     SAME(sizeof(size_t), 8);
@@ -56,6 +69,8 @@ static void layout(void) {
     SAME(offsetof(lomuveran_report, sum), 48);
     SAME(offsetof(lomuveran_report, mean), 56);
     SAME(offsetof(lomuveran_report, remainder), 64);
+    SAME(sizeof(lomuveran_record), 32);
+    SAME(offsetof(lomuveran_record, fixed), 24);
     ANSWER(of_count[0](LOMUVERAN_MAX_PLACES), LOMUVERAN_ACCEPTED, 0, LOMUVERAN_MAX_SWITCHES);
     ANSWER(of_count[1](LOMUVERAN_MAX_PLACES), LOMUVERAN_ACCEPTED, 0, LOMUVERAN_MAX_ENTRIES);
     ANSWER(of_count[0](LOMUVERAN_MAX_PLACES + 1), LOMUVERAN_TOO_MANY_PLACES, 0, 0);
@@ -163,63 +178,152 @@ static void charts(void) {
 
 /* ---- permutations: every call with a good and a bad list, a list too long, and both records in their sequence */
 
+static const uint16_t cycle[4] = {1, 2, 0, 77}, second[4] = {0, 2, 1, 77}, bad[4] = {1, 3, 0, 77};
+static uint16_t large[1026], kept[1026]; /* 1024, 1023 .. 0, 77 */
+
 static void permutations(void) {
-    static const uint16_t order[4] = {1, 2, 0, 77}, second[3] = {0, 2, 1}, bad[4] = {1, 3, 0, 77};
-    static const uint16_t identity[4] = {0, 1, 2, 77}, exchanged[4] = {0, 2, 1, 77}, inverse[4] = {2, 0, 1, 77}, combined[4] = {2, 1, 0, 77};
-    static uint16_t large[1026], kept[1026];
+    static const uint16_t identity[4] = {0, 1, 2, 77}, exchanged[4] = {0, 2, 1, 77};
+    static const uint16_t inverse[4] = {2, 0, 1, 77}, combined[4] = {2, 1, 0, 77};
     uint16_t p[4];
-    size_t i;
-    for (i = 0; i < 1026; i++) large[i] = kept[i] = (uint16_t)(i < 1025 ? 1024 - i : 77);
 #define FROM(list) memcpy(p, list, sizeof p)
-    FROM(order);
-    ANSWER(lomuveran_permutation_identity(p, 3), 0, 0, 0);
+    FROM(cycle);
+    RECORD(of_fresh(p, 3), 0, 0, 3);
     ALIKE(p, identity);
-    ANSWER(lomuveran_permutation_from_list(order, 3), 0, 0, 0);
-    ANSWER(lomuveran_permutation_from_list(order, 4), LOMUVERAN_ENTRY, 3, 0);
-    FROM(order);
-    ANSWER(lomuveran_permutation_exchange(p, 3, 0, 2), 0, 0, 0);
+    RECORD(of_inverse(p, 3, 3), 0, 0, 3);
+    ALIKE(p, identity);
+    RECORD(of_list(cycle, 3), 0, 0, 0);
+    RECORD(of_list(second, 3), 0, 0, 1);
+    RECORD(of_list(identity, 3), 0, 0, 3);
+    FROM(cycle);
+    RECORD(of_exchange(p, 3, 0, 0, 2), 0, 0, 1);
     ALIKE(p, exchanged);
-    FROM(order);
-    ANSWER(lomuveran_permutation_exchange(p, 3, 0, 3), LOMUVERAN_PLACES, 0, 0);
-    ANSWER(lomuveran_permutation_exchange(p, 3, (size_t)-1, 0), LOMUVERAN_PLACES, 0, 0);
-    ANSWER(lomuveran_permutation_combine(p, 3, second, 2), LOMUVERAN_ENTRY, 1, 0);
-    ANSWER(lomuveran_permutation_combine(p, 3, second, 1), LOMUVERAN_LENGTHS, 0, 0);
-    ANSWER(lomuveran_permutation_combine(p, 3, large, 1025), LOMUVERAN_TOO_MANY_PLACES, 0, 0);
-    ANSWER(lomuveran_permutation_combine(p, 4, large, 1025), LOMUVERAN_ENTRY, 3, 0);
-    ALIKE(p, order);
-    ANSWER(lomuveran_permutation_combine(p, 3, second, 3), 0, 0, 0);
+    RECORD(of_exchange(p, 3, 1, 2, 1), 0, 0, 3);
+    ALIKE(p, identity);
+    RECORD(of_exchange(p, 3, 3, 1, 1), 0, 0, 3);
+    ALIKE(p, identity);
+    FROM(cycle);
+    RECORD(of_combine(p, 3, 0, second, 3, 1), 0, 0, 1);
     ALIKE(p, combined);
-    FROM(order);
-    ANSWER(lomuveran_permutation_inverse(p, 3), 0, 0, 0);
+    RECORD(of_combine(p, 3, 1, combined, 3, 1), 0, 0, 3);
+    ALIKE(p, identity);
+    FROM(cycle);
+    RECORD(of_inverse(p, 3, 0), 0, 0, 0);
     ALIKE(p, inverse);
-    ANSWER(lomuveran_permutation_fixed_points(order, 3), 0, 0, 0);
-    ANSWER(lomuveran_permutation_fixed_points(identity, 3), 0, 0, 3);
+    ANSWER(of_home(cycle, 3, 0), 0, 0, 0);
+    ANSWER(of_home(identity, 3, 3), 0, 0, 3);
+}
+
+static void bad_records(void) {
+    uint16_t p[4];
+    size_t fixed;
+    RECORD(of_list(cycle, 4), LOMUVERAN_ENTRY, 3, 0);
+    RECORD(of_list(bad, 3), LOMUVERAN_ENTRY, 1, 0);
+    FROM(cycle);
+    RECORD(of_exchange(p, 3, 0, 0, 3), LOMUVERAN_PLACES, 0, 0);
+    RECORD(of_exchange(p, 3, 0, MOST, 0), LOMUVERAN_PLACES, 0, 0);
+    RECORD(of_combine(p, 3, 0, second, 2, 1), LOMUVERAN_ENTRY, 1, 0);
+    RECORD(of_combine(p, 3, 0, second, 1, 1), LOMUVERAN_LENGTHS, 0, 0);
+    RECORD(of_combine(p, 3, 0, second, 1, 0), LOMUVERAN_ENTRY, 1024, 0); /* before 15 */
+    RECORD(of_combine(p, 3, 0, large, 1025, 1), LOMUVERAN_TOO_MANY_PLACES, 0, 0);
+    ALIKE(p, cycle);
+    FROM(second);
+    RECORD(of_exchange(p, 3, 1, 3, 0), LOMUVERAN_PLACES, 0, 1);
+    RECORD(of_combine(p, 3, 1, cycle, 0, 0), LOMUVERAN_LENGTHS, 0, 1);
+    RECORD(of_combine(p, 3, 1, bad, 3, 0), LOMUVERAN_ENTRY, 1, 1);
+    RECORD(of_combine(p, 3, 1, large, 1025, 0), LOMUVERAN_TOO_MANY_PLACES, 0, 1);
+    ALIKE(p, second);
     FROM(bad);
-    ANSWER(lomuveran_permutation_exchange(p, 3, 9, 9), LOMUVERAN_ENTRY, 1, 0);
-    ANSWER(lomuveran_permutation_combine(p, 3, second, 3), LOMUVERAN_ENTRY, 1, 0);
-    ANSWER(lomuveran_permutation_inverse(p, 3), LOMUVERAN_ENTRY, 1, 0);
-    ANSWER(lomuveran_permutation_fixed_points(p, 3), LOMUVERAN_ENTRY, 1, 0);
+    for (fixed = 0; fixed < 6; fixed++) { /* a bad entry goes before any number, true or not */
+        RECORD(of_exchange(p, 3, fixed, 9, 9), LOMUVERAN_ENTRY, 1, fixed);
+        RECORD(of_combine(p, 3, fixed, second, 3, fixed), LOMUVERAN_ENTRY, 1, fixed);
+        RECORD(of_combine(p, 4, fixed, large, 1025, fixed), LOMUVERAN_ENTRY, 3, fixed);
+        RECORD(of_inverse(p, 3, fixed), LOMUVERAN_ENTRY, 1, fixed);
+        ANSWER(of_home(p, 3, fixed), 0, 0, fixed);
+    }
     ALIKE(p, bad);
-    ANSWER(lomuveran_permutation_identity(large, 1025), LOMUVERAN_TOO_MANY_PLACES, 0, 0);
-    ANSWER(lomuveran_permutation_from_list(large, 1025), LOMUVERAN_TOO_MANY_PLACES, 0, 0);
-    ANSWER(lomuveran_permutation_exchange(large, 1025, 0, 1), LOMUVERAN_TOO_MANY_PLACES, 0, 0);
-    ANSWER(lomuveran_permutation_combine(large, 1025, second, 3), LOMUVERAN_TOO_MANY_PLACES, 0, 0);
-    ANSWER(lomuveran_permutation_inverse(large, 1025), LOMUVERAN_TOO_MANY_PLACES, 0, 0);
-    ANSWER(lomuveran_permutation_fixed_points(large, 1025), LOMUVERAN_TOO_MANY_PLACES, 0, 0);
+}
+
+static void long_records(void) {
+    size_t i;
+    RECORD(of_fresh(large, 1025), LOMUVERAN_TOO_MANY_PLACES, 0, 0);
+    RECORD(of_list(large, 1025), LOMUVERAN_TOO_MANY_PLACES, 0, 0);
+    RECORD(of_exchange(large, 1025, 1, 0, 1), LOMUVERAN_TOO_MANY_PLACES, 0, 1);
+    RECORD(of_combine(large, 1025, 7, second, 3, 1), LOMUVERAN_TOO_MANY_PLACES, 0, 7);
+    RECORD(of_inverse(large, 1025, MOST), LOMUVERAN_TOO_MANY_PLACES, 0, MOST);
+    ANSWER(of_home(large, 1025, 1), LOMUVERAN_TOO_MANY_PLACES, 0, 0);
+    ANSWER(of_home(large, 1024, 1024), 0, 0, 1024); /* not asked: 1024 is no entry of 1024 places */
     ALIKE(large, kept);
-    ANSWER(lomuveran_permutation_inverse(large + 1, 1024), 0, 0, 0); /* 1023, 1022, .. is its own inverse */
+    RECORD(of_inverse(large + 1, 1024, 0), 0, 0, 0); /* 1023, 1022, .. is its own inverse */
     ALIKE(large, kept);
-    ANSWER(lomuveran_permutation_exchange(large + 1, 1024, 0, 1023), 0, 0, 0);
+    for (i = 1; i < 1027; i++) RECORD(of_inverse(large + 1, 1024, i), LOMUVERAN_ENTRY, 1024, i);
+    large[1024] = 1023; /* twice */
+    RECORD(of_inverse(large + 1, 1024, 0), LOMUVERAN_ENTRY, 1023, 0);
+    RECORD(of_exchange(large + 1, 1024, 1, 0, 1), LOMUVERAN_ENTRY, 1023, 1);
+    large[1024] = 0;
+    RECORD(of_exchange(large + 1, 1024, 0, 0, 1023), 0, 0, 2);
     SAME(large[1] == 0 && large[1024] == 1023 && large[1025] == 77 && large[0] == 1024, 1);
-    ANSWER(lomuveran_permutation_fixed_points(large + 1, 1024), 0, 0, 2);
+    RECORD(of_exchange(large + 1, 1024, 2, 1, 1022), 0, 0, 4);
+    RECORD(of_list(large + 1, 1024), 0, 0, 4);
+    ANSWER(of_home(large + 1, 1024, 4), 0, 0, 4);
+    RECORD(of_fresh(large + 1, 1024), 0, 0, 1024);
+    RECORD(of_inverse(large + 1, 1024, 1024), 0, 0, 1024);
+    RECORD(of_combine(large + 1, 1024, 1024, kept + 1, 1024, 0), 0, 0, 0);
+    ALIKE(large, kept);
+}
+
+/* ---- the number of a record: every wrong one of small records, alone and before what else is wrong */
+
+/* list has is entries at home, and is handed in with another number */
+static void wrong_number(const uint16_t *list, size_t n, size_t is, size_t fixed) {
+    uint16_t p[6];
+    FROM(list);
+    RECORD(of_exchange(p, n, fixed, 0, 0), LOMUVERAN_ENTRY, 1024, fixed);
+    RECORD(of_exchange(p, n, fixed, 0, n), LOMUVERAN_ENTRY, 1024, fixed); /* before 14 */
+    RECORD(of_exchange(p, n, fixed, MOST, 0), LOMUVERAN_ENTRY, 1024, fixed);
+    RECORD(of_inverse(p, n, fixed), LOMUVERAN_ENTRY, 1024, fixed);
+    RECORD(of_combine(p, n, fixed, list, n, is), LOMUVERAN_ENTRY, 1024, fixed);
+    RECORD(of_combine(p, n, fixed, list, n, fixed), LOMUVERAN_ENTRY, 1024, fixed);
+    RECORD(of_combine(p, n, fixed, bad, 3, 0), LOMUVERAN_ENTRY, 1024, fixed); /* before all of the second record */
+    RECORD(of_combine(p, n, fixed, large, 1025, 0), LOMUVERAN_ENTRY, 1024, fixed);
+    RECORD(of_combine(p, n, fixed, kept + 1, 1024, 0), LOMUVERAN_ENTRY, 1024, fixed); /* before 15 */
+    RECORD(of_combine(p, n, is, list, n, fixed), LOMUVERAN_ENTRY, 1024, is); /* of the second: the first's comes back */
+    RECORD(of_combine(large + 1, 1024, 0, list, n, fixed), LOMUVERAN_ENTRY, 1024, 0);
+    ANSWER(of_home(p, n, fixed), 0, 0, fixed);
+    alike(p, list, sizeof p, "the entries of a record with a wrong number", __LINE__);
+}
+
+static void wrong_numbers(void) {
+    static const uint16_t lists[4][6] = {{0, 1, 2, 3, 4, 5}, {1, 0, 2, 3, 4, 5}, {1, 0, 3, 2, 4, 5}, {4, 0, 1, 2, 3, 5}};
+    size_t k, n, i, is, fixed, met = 0;
+    for (k = 0; k < 4; k++) {
+        for (n = 0; n < 7; n++) {
+            if (of_list(lists[k], n).answer.number) continue;
+            for (is = i = 0; i < n; i++) is += lists[k][i] == i;
+            RECORD(of_list(lists[k], n), 0, 0, is);
+            ANSWER(of_home(lists[k], n, is), 0, 0, is);
+            for (fixed = 0; fixed < n + 2; fixed++)
+                if (fixed != is) wrong_number(lists[k], n, is, fixed);
+            wrong_number(lists[k], n, is, is + 65536); /* no number is taken by its low bits */
+            wrong_number(lists[k], n, is, is + ((size_t)1 << 32));
+            wrong_number(lists[k], n, is, MOST);
+            met++;
+        }
+    }
+    SAME(met, 21);
+    ALIKE(large, kept);
 }
 
 int main(void) {
+    size_t i;
     layout();
     mixing();
     refusals();
     charts();
+    for (i = 0; i < 1026; i++) large[i] = kept[i] = (uint16_t)(i < 1025 ? 1024 - i : 77);
     permutations();
+    bad_records();
+    long_records();
+    wrong_numbers();
     printf("compared %d answers and buffers from C, %d wrong\n", compared, wrong);
     return wrong != 0;
 }

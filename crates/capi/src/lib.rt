@@ -3,6 +3,7 @@
 // call.
 use capi_values::CAnswer;
 use capi_values::CNumber;
+use capi_values::CRecord;
 use capi_values::CReport;
 use permutation_record::Permutation;
 ghost use mathlib.Core.Path.{_≡_};
@@ -16,7 +17,7 @@ ghost use Rattle.counts.specs.Counts.{W, E};
 ghost use Rattle.numbers.specs.Numbers.{numberAt};
 ghost use Rattle.permutation_record.specs.Records as records;
 ghost use Rattle.shuffle.specs.Shuffled.{shuffleCall};
-ghost use Rattle.capi_values.specs.Crossing.{answerIn, numberIn, reportIn, recordIn, lent, counted};
+ghost use Rattle.capi_values.specs.Crossing.{answerIn, numberIn, reportIn, toldIn, told, lending, recordIn, lent, counted};
 
 // 01: set.
 #[no_mangle]
@@ -130,60 +131,68 @@ pub extern "C" fn lomuveran_entries(n: usize) -> CAnswer
     capi_values::tell(answers::accept(counts::entries(n)))
 }
 
-// ---- permutations (01: open orders): the record is its entries as lent, and an accepted call leaves the new one in them
+// ---- permutations (01: open orders): the record is its entries as lent and the number of those that stay home (02, F-2); an
+// accepted call leaves the new entries in the lent ones and tells their number
 
 // 01: fresh, of as many places as there are entries.
 #[no_mangle]
-pub extern "C" fn lomuveran_permutation_identity(entries: &mut [u16]) -> CAnswer
-    ensures { λ r. ⌜ outcome (answerIn r) (now (entries .exit)) ≡ lent (records.identityCall (length (now (entries .entry))))
+pub extern "C" fn lomuveran_permutation_identity(entries: &mut [u16]) -> CRecord
+    ensures { λ r. ⌜ lending (toldIn r) (now (entries .exit)) ≡ lent (records.identityCall (length (now (entries .entry))))
         (now (entries .entry)) ⌝ }
 {
     capi_values::give(Permutation::identity(entries.len()), entries)
 }
 
-// 01: from a list. The record is the list itself, as lent.
+// 01: from a list. The record is the list itself, as lent, with the number that is told.
 #[no_mangle]
-pub extern "C" fn lomuveran_permutation_from_list(list: &[u16]) -> CAnswer
-    ensures { λ r. ⌜ answerIn r ≡ records.fromListCall (now (list .entry)) .answer ⌝ }
+pub extern "C" fn lomuveran_permutation_from_list(list: &[u16]) -> CRecord
+    ensures { λ r. ⌜ toldIn r ≡ told (records.fromListCall (now (list .entry))) ⌝ }
 {
-    let reply = Permutation::from_list(list);
-    capi_values::tell(reply.answer)
+    capi_values::tell_record(Permutation::from_list(list))
 }
 
 #[no_mangle]
-pub extern "C" fn lomuveran_permutation_exchange(entries: &mut [u16], i: usize, j: usize) -> CAnswer
-    ensures { λ r. ⌜ outcome (answerIn r) (now (entries .exit)) ≡ lent (records.exchangeCall (recordIn
-        (now (entries .entry))) i j) (now (entries .entry)) ⌝ }
+pub extern "C" fn lomuveran_permutation_exchange(
+    entries: &mut [u16],
+    fixed: usize,
+    i: usize,
+    j: usize,
+) -> CRecord
+    ensures { λ r. ⌜ lending (toldIn r) (now (entries .exit)) ≡ lent (records.exchangeCall (recordIn
+        (now (entries .entry)) fixed) i j) (now (entries .entry)) ⌝ }
 {
-    let p = capi_values::record_of(entries);
+    let p = capi_values::record_of(entries, fixed);
     capi_values::give(p.exchange(i, j), entries)
 }
 
-// First, then second, into first.
+// First, then second, into first; `fixed` is the first one's number, `other` the second's.
 #[no_mangle]
-pub extern "C" fn lomuveran_permutation_combine(first: &mut [u16], second: &[u16]) -> CAnswer
-    ensures { λ r. ⌜ outcome (answerIn r) (now (first .exit)) ≡ lent (records.combineCall (recordIn
-        (now (first .entry))) (recordIn (now (second .entry)))) (now (first .entry)) ⌝ }
+pub extern "C" fn lomuveran_permutation_combine(
+    first: &mut [u16],
+    fixed: usize,
+    second: &[u16],
+    other: usize,
+) -> CRecord
+    ensures { λ r. ⌜ lending (toldIn r) (now (first .exit)) ≡ lent (records.combineCall (recordIn
+        (now (first .entry)) fixed) (recordIn (now (second .entry)) other)) (now (first .entry)) ⌝ }
 {
-    let p = capi_values::record_of(first);
-    capi_values::give(p.combine(capi_values::record_of(second)), first)
+    let p = capi_values::record_of(first, fixed);
+    capi_values::give(p.combine(capi_values::record_of(second, other)), first)
 }
 
 #[no_mangle]
-pub extern "C" fn lomuveran_permutation_inverse(entries: &mut [u16]) -> CAnswer
-    ensures { λ r. ⌜ outcome (answerIn r) (now (entries .exit)) ≡ lent (records.inverseCall (recordIn (now (entries .entry))))
-        (now (entries .entry)) ⌝ }
+pub extern "C" fn lomuveran_permutation_inverse(entries: &mut [u16], fixed: usize) -> CRecord
+    ensures { λ r. ⌜ lending (toldIn r) (now (entries .exit)) ≡ lent (records.inverseCall (recordIn
+        (now (entries .entry)) fixed)) (now (entries .entry)) ⌝ }
 {
-    let p = capi_values::record_of(entries);
+    let p = capi_values::record_of(entries, fixed);
     capi_values::give(p.inverse(), entries)
 }
 
-// The number of entries that stay home, as the count.
+// The number that the record carries, as the count. The entries are not looked at, only how many there are.
 #[no_mangle]
-pub extern "C" fn lomuveran_permutation_fixed_points(entries: &[u16]) -> CAnswer
-    ensures { λ r. ⌜ answerIn r ≡ records.fixedPointsCall (recordIn (now (entries .entry))) .answer ⌝ }
+pub extern "C" fn lomuveran_permutation_fixed_points(entries: &[u16], fixed: usize) -> CAnswer
+    ensures { λ r. ⌜ answerIn r ≡ records.fixedPointsCall (recordIn (now (entries .entry)) fixed) .answer ⌝ }
 {
-    let p = capi_values::record_of(entries);
-    let reply = p.fixed_points();
-    capi_values::tell(reply.answer)
+    capi_values::tell(permutation_record::fixed_points_of(entries.len(), fixed))
 }

@@ -20,7 +20,7 @@ use Rattle.numbers.specs.declared.ReadNumber.the-variants.{Number, Refused}
 use Rattle.permutation.specs.Permutations.{tabulate}
 use Rattle.permutation_record.specs.declared.Reply.{Reply}
 use Rattle.permutation.proofs.Tables.{tabulate-more}
-use Rattle.capi_values.specs.Crossing.{counted, recordIn, spread, lent}
+use Rattle.capi_values.specs.Crossing.{counted, recordIn, Told, told, Lent, lending, spread, lent}
 
 -- ---- answers
 
@@ -91,20 +91,23 @@ module _ (f : ℕ → ℕ) (before : List ℕ) where
       let z : i ≡ n = omega (arith, F .within) in
       F .whole ∙ ap (λ es. tabulate f i ++ es) (drop-of-length-le before {i = i} (omega arith)) ∙ append-nil (tabulate f i) ∙ ap (tabulate f) z
 
-pub record-filled : (es : List ℕ) {before e : List ℕ} {i : ℕ} → length before ≡ 1024 → 1024 ≤ i → Filling (λ j. getD es j 0) before e i → record { length = length es; entries = e } ≡ recordIn es
+pub record-filled : (es : List ℕ) (fixed : ℕ) {before e : List ℕ} {i : ℕ} → length before ≡ 1024 → 1024 ≤ i
+    → Filling (λ j. getD es j 0) before e i
+    → record { length = length es; entries = e; fixed = fixed } ≡ recordIn es fixed
 unfolding recordIn
-record-filled es {before} room h F = rw (filled (λ j. getD es j 0) before room h F)
+record-filled es fixed {before} room h F = rw (filled (λ j. getD es j 0) before room h F)
 
 -- ---- a reply and the lent entries
 
-module _ (r : Reply) (entries : List ℕ) {told : Answer} (same : told ≡ r .answer) where
-  pub lent-refused : r .answer .number ≢ 0 → outcome told entries ≡ lent r entries
+module _ (r : Reply) (entries : List ℕ) {t : Told} (same : t ≡ told r) where
+  pub lent-refused : r .answer .number ≢ 0 → lending t entries ≡ lent r entries
   unfolding lent
   lent-refused n = rw (same, ne-eqb (r .answer .number) 0 n)
 
-  pub lent-accepted : r .answer .number ≡ 0 → {after : List ℕ} → after ≡ spread (r .permutation) (length entries) → outcome told after ≡ lent r entries
+  pub lent-accepted : r .answer .number ≡ 0 → {after : List ℕ} → after ≡ spread (r .permutation) (length entries)
+      → lending t after ≡ lent r entries
   unfolding lent
   lent-accepted n e = rw (same, eq-eqb (r .answer .number) 0 n, e)
 
-pub reply-crosses : (entries : List ℕ) {given reply : Reply} {o : Outcome} → o ≡ lent given entries → given ≡ reply → o ≡ lent reply entries
+pub reply-crosses : (entries : List ℕ) {given reply : Reply} {l : Lent} → l ≡ lent given entries → given ≡ reply → l ≡ lent reply entries
 reply-crosses entries came same = came ∙ ap (λ (r : Reply). lent r entries) same

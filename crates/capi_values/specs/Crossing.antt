@@ -7,7 +7,7 @@ use lib.Dec.{eqb, leb}
 use lib.ListN.{length, getD}
 use Rattle.answers.specs.declared.Answer.{Answer}
 use Rattle.answers.specs.Questions.{ask, firstNo}
-use Rattle.answers.specs.Outcomes.{Outcome, answerOf, outcome}
+use Rattle.answers.specs.Outcomes.{answerOf}
 use Rattle.gauges.specs.declared.Figures.{Figures}
 use Rattle.gauges.specs.declared.GaugeReport.{GaugeReport}
 use Rattle.numbers.specs.Numbers.{NumberAnswer}
@@ -17,6 +17,7 @@ use Rattle.permutation_record.specs.declared.Reply.{Reply}
 use Rattle.capi_values.specs.declared.CAnswer.{CAnswer}
 use Rattle.capi_values.specs.declared.CNumber.{CNumber}
 use Rattle.capi_values.specs.declared.CReport.{CReport}
+use Rattle.capi_values.specs.declared.CRecord.{CRecord}
 
 -- ---- answers
 
@@ -47,18 +48,36 @@ reportIn r = record { answer = answerIn (r .answer); figures = figuresIn r }
 abbrev pub counted : (ℕ → ℕ) → ℕ → Answer
 counted count n = answerOf (firstNo (ask 1 0 (leb n 1024) ∷ [])) (count n)
 
--- ---- permutations: a slice of entries is the record
+-- ---- permutations: a slice of entries with its number is the record
 
--- the record of lent entries: as long as they are; its 1,024 entries are theirs, and 0 past their end
-unfoldable pub recordIn : List ℕ → Permutation
-recordIn es = record { length = length es; entries = tabulate (λ i. getD es i 0) 1024 }
+-- the record of lent entries: as long as they are; its 1,024 entries are theirs, and 0 past their end; the number as handed in
+unfoldable pub recordIn : List ℕ → ℕ → Permutation
+recordIn es fixed = record { length = length es; entries = tabulate (λ i. getD es i 0) 1024; fixed = fixed }
+
+-- what a C caller is told of a call on records: its answer, and the number that the record which it gives carries
+pub record Told : Type 0 where
+  pub answer : Answer
+  pub fixed : ℕ
+
+abbrev pub toldIn : CRecord → Told
+toldIn r = record { answer = answerIn (r .answer); fixed = r .fixed }
+
+abbrev pub told : Reply → Told
+told r = record { answer = r .answer; fixed = r .permutation .fixed }
+
+-- .. with the entries lent to it
+pub record Lent : Type 0 where
+  pub told : Told
+  pub entries : List ℕ
+
+abbrev pub lending : Told → List ℕ → Lent
+lending t entries = record { told = t; entries = entries }
 
 -- n entries of a record
 abbrev pub spread : Permutation → ℕ → List ℕ
 spread p n = tabulate (λ i. getD (p .entries) i 0) n
 
--- what a call on records comes to with the entries lent to it: accepted, they are those of the record that it gives; refused,
--- they stay as they are
-unfoldable pub lent : Reply → List ℕ → Outcome
+-- what a call on records comes to: accepted, the lent entries are those of the record that it gives; refused, they stay as they are
+unfoldable pub lent : Reply → List ℕ → Lent
 lent r entries =
-    outcome (r .answer) (elim (eqb (r .answer .number) 0) [ true ↦ spread (r .permutation) (length entries) | false ↦ entries ])
+    lending (told r) (elim (eqb (r .answer .number) 0) [ true ↦ spread (r .permutation) (length entries) | false ↦ entries ])

@@ -1,14 +1,13 @@
 // What crosses between the calls for C (crate capi) and the crates that do the work: answers, the number reader's answer, a
-// gauge's report and the entries of a permutation.
+// gauge's report, and a permutation as its entries and its number.
 use gauges::GaugeReport;
 use numbers::ReadNumber;
 use permutation_record::Permutation;
 use permutation_record::Reply;
 ghost use mathlib.Core.Path.{_≡_};
 ghost use lib.ListN.{length, getD};
-ghost use Rattle.answers.specs.Outcomes.{outcome};
 ghost use Rattle.numbers.specs.Reading.{meaning};
-ghost use Rattle.capi_values.specs.Crossing.{answerIn, numberIn, reportIn, recordIn, spread, lent};
+ghost use Rattle.capi_values.specs.Crossing.{answerIn, numberIn, reportIn, toldIn, told, lending, recordIn, spread, lent};
 
 // An answer as C lays it out.
 #[repr(C)]
@@ -82,7 +81,25 @@ pub fn tell_report(r: GaugeReport) -> CReport
     }
 }
 
-// ---- permutations: the record is its entries as lent
+// ---- permutations: the record is its entries as lent, and its number
+
+// The answer of a call on a record, with the number that the record which it gives carries (how many entries stay home).
+#[repr(C)]
+pub struct CRecord {
+    pub answer: CAnswer,
+    pub fixed: usize,
+}
+
+pub fn tell_record(reply: Reply) -> CRecord
+    ensures { λ r. ⌜ toldIn r ≡ told reply ⌝ }
+{
+    let answer = tell(reply.answer);
+    let p = reply.permutation;
+    CRecord {
+        answer,
+        fixed: p.fixed,
+    }
+}
 
 // Entry i, or 0 past the end.
 fn at(entries: &[u16], i: usize) -> u16
@@ -94,9 +111,9 @@ fn at(entries: &[u16], i: usize) -> u16
     0
 }
 
-// The record of lent entries. Where more than 1,024 are lent the calls refuse it by its length.
-pub fn record_of(entries: &[u16]) -> Permutation
-    ensures { λ r. ⌜ r ≡ recordIn (now (entries .entry)) ⌝ }
+// The record of lent entries and their number. Where more than 1,024 are lent the calls refuse it by its length.
+pub fn record_of(entries: &[u16], fixed: usize) -> Permutation
+    ensures { λ r. ⌜ r ≡ recordIn (now (entries .entry)) fixed ⌝ }
 {
     let mut e = [0u16; 1024];
     let mut i = 0;
@@ -107,6 +124,7 @@ pub fn record_of(entries: &[u16]) -> Permutation
     Permutation {
         length: entries.len(),
         entries: e,
+        fixed,
     }
 }
 
@@ -123,13 +141,13 @@ fn put(p: Permutation, entries: &mut [u16])
     }
 }
 
-pub fn give(reply: Reply, entries: &mut [u16]) -> CAnswer
-    ensures { λ r. ⌜ outcome (answerIn r) (now (entries .exit)) ≡ lent reply (now (entries .entry)) ⌝ }
+pub fn give(reply: Reply, entries: &mut [u16]) -> CRecord
+    ensures { λ r. ⌜ lending (toldIn r) (now (entries .exit)) ≡ lent reply (now (entries .entry)) ⌝ }
 {
     let answer = reply.answer;
     if answer.number != 0 { // nothing is written
-        return tell(answer);
+        return tell_record(reply);
     }
     put(reply.permutation, entries);
-    tell(answer)
+    tell_record(reply)
 }

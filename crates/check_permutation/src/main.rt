@@ -1,5 +1,7 @@
 // Runs the permutation record and the shuffle against a second, plainly written computation, and prints how many
 // outcomes were compared and how many were equal.
+mod chains;
+mod numbers;
 mod plain;
 mod refusals;
 
@@ -27,9 +29,9 @@ fn check_list(t: Tally, e: [u16; 1024], n: usize) -> Tally
     let bad = plain::first_bad(&e, n);
     let r = Permutation::from_list(&e[..n]);
     if bad < n {
-        return plain::compare(t, r, 6, bad, 0, [0u16; 1024]);
+        return refusals::of_none(t, r, 6, bad);
     }
-    plain::accepted(t, r, 0, n, e)
+    plain::accepted(t, r, n, e)
 }
 
 // Every permutation among those lists: the other calls.
@@ -52,18 +54,19 @@ fn check_permutations(before: Tally, n: usize, total: usize) -> Tally
 fn check_calls(t: Tally, e: [u16; 1024], s: [u16; 1024], n: usize) -> Tally
     requires { ⌜ n ≤ 1024 ⌝ }
 {
-    let p = Permutation {
-        length: n,
-        entries: e,
-    };
-    let q = Permutation {
-        length: n,
-        entries: s,
-    };
-    let t1 = plain::accepted(t, p.inverse(), 0, n, plain::inverse(&e, n));
-    let t2 = plain::accepted(t1, p.fixed_points(), plain::fixed(&e, n), n, e);
-    let t3 = plain::accepted(t2, p.combine(q), 0, n, plain::combine(&e, &s, n));
-    check_group(t3, p, n)
+    let p = plain::record(e, n);
+    let t1 = plain::accepted(t, p.inverse(), n, plain::inverse(&e, n));
+    let t2 = plain::asked(t1, p.fixed_points(), p);
+    check_group(check_pair(t2, e, s, n), p, n)
+}
+
+// First e, then s.
+fn check_pair(t: Tally, e: [u16; 1024], s: [u16; 1024], n: usize) -> Tally
+    requires { ⌜ n ≤ 1024 ⌝ }
+{
+    let p = plain::record(e, n);
+    let q = plain::record(s, n);
+    plain::accepted(t, p.combine(q), n, plain::combine(&e, &s, n))
 }
 
 // Inverse twice, and combined with the inverse.
@@ -73,9 +76,9 @@ fn check_group(t: Tally, p: Permutation, n: usize) -> Tally
     let r = p.inverse();
     let back = r.permutation;
     let e = p.entries;
-    let t1 = plain::accepted(t, back.inverse(), 0, n, e);
-    let t2 = plain::accepted(t1, p.combine(back), 0, n, plain::identity(n));
-    plain::accepted(t2, Permutation::identity(n), 0, n, plain::identity(n))
+    let t1 = plain::accepted(t, back.inverse(), n, e);
+    let t2 = plain::accepted(t1, p.combine(back), n, plain::identity(n));
+    plain::accepted(t2, Permutation::identity(n), n, plain::identity(n))
 }
 
 // All places i and j up to the length itself.
@@ -104,18 +107,15 @@ fn check_row(before: Tally, e: [u16; 1024], n: usize, i: usize) -> Tally
 }
 
 fn check_exchange(t: Tally, e: [u16; 1024], n: usize, i: usize, j: usize) -> Tally {
-    let p = Permutation {
-        length: n,
-        entries: e,
-    };
+    let p = plain::record(e, n);
     let r = p.exchange(i, j);
     if n <= i {
-        return plain::compare(t, r, 14, 0, n, e);
+        return plain::compare(t, r, 14, 0, p);
     }
     if n <= j {
-        return plain::compare(t, r, 14, 0, n, e);
+        return plain::compare(t, r, 14, 0, p);
     }
-    plain::accepted(t, r, 0, n, plain::exchange(e, i, j))
+    plain::accepted(t, r, n, plain::exchange(e, i, j))
 }
 
 // Shuffles of n places by pseudo-random words, and what they give under the calls.
@@ -179,15 +179,47 @@ fn small_permutations(t: Tally) -> Tally {
     check_permutations(t5, 6, 46656)
 }
 
-fn main() {
+fn print_calls() {
     tally::print(b"lists of up to 6 entries", small_lists(tally::none()));
     tally::print(
         b"calls on permutations of up to 6 places",
         small_permutations(tally::none()),
     );
+}
+
+fn print_drawn() {
     tally::print(
         b"shuffles of up to 1024 places, and calls on them",
         check_shuffles(tally::none()),
     );
+    tally::print(
+        b"chains of 50 drawn calls on up to 1024 places",
+        chains::all(tally::none()),
+    );
+}
+
+fn print_numbers() {
+    tally::print(
+        b"how many stay home, true and false, up to 6 places",
+        numbers::small(tally::none()),
+    );
+    tally::print(
+        b"how many stay home, true and false, 1024 places",
+        numbers::large(tally::none()),
+    );
+}
+
+fn print_refusals() {
+    tally::print(
+        b"asking how many stay home of ill-formed records",
+        numbers::askings(tally::none()),
+    );
     tally::print(b"refusals", refusals::all(tally::none()));
+}
+
+fn main() {
+    print_calls();
+    print_drawn();
+    print_numbers();
+    print_refusals();
 }

@@ -1,14 +1,15 @@
 // A plain second computation: marks and searches, on arrays of 1,024 entries.
 use answers::Answer;
+use permutation_record::Permutation;
 use permutation_record::Reply;
 use tally::Tally;
 ghost use Prim.Native.Nat.{_≤_};
 
-fn wide(x: u16) -> usize {
+pub(crate) fn wide(x: u16) -> usize {
     x as usize
 }
 
-fn wider(x: u32) -> usize {
+pub(crate) fn wider(x: u32) -> usize {
     x as usize
 }
 
@@ -16,11 +17,11 @@ fn narrow(x: usize) -> u16 {
     if x < 65536 { x as u16 } else { 65535 }
 }
 
-fn at(e: &[u16; 1024], i: usize) -> u16 {
+pub(crate) fn at(e: &[u16; 1024], i: usize) -> u16 {
     if i < 1024 { e[i] } else { 0 }
 }
 
-fn put(e: [u16; 1024], i: usize, x: u16) -> [u16; 1024] {
+pub(crate) fn put(e: [u16; 1024], i: usize, x: u16) -> [u16; 1024] {
     let mut out = e;
     if i < 1024 {
         out[i] = x;
@@ -41,23 +42,37 @@ pub(crate) fn answered(a: Answer, number: usize, place: usize, count: usize) -> 
     tally::same_answer(a, right)
 }
 
-// A reply with this answer and this record.
-fn replied(
-    r: Reply,
-    number: usize,
-    place: usize,
-    count: usize,
-    length: usize,
-    e: &[u16; 1024],
-) -> bool {
-    let p = r.permutation;
-    let a = r.answer;
-    let entries = p.entries;
-    if p.length != length {
+// The record of n entries, with the number counted here.
+pub(crate) fn record(e: [u16; 1024], n: usize) -> Permutation {
+    numbered(e, n, fixed(&e, n))
+}
+
+// The record of n entries with this number, true or false.
+pub(crate) fn numbered(e: [u16; 1024], n: usize, number: usize) -> Permutation {
+    Permutation {
+        length: n,
+        entries: e,
+        fixed: number,
+    }
+}
+
+fn same_record(p: Permutation, q: Permutation) -> bool {
+    let a = p.entries;
+    let b = q.entries;
+    if p.length != q.length {
         return false;
     }
+    if p.fixed != q.fixed {
+        return false;
+    }
+    alike(&a, &b)
+}
+
+// A reply with this answer and this record.
+fn replied(r: Reply, number: usize, place: usize, count: usize, right: Permutation) -> bool {
+    let a = r.answer;
     if answered(a, number, place, count) {
-        return alike(&entries, e);
+        return same_record(r.permutation, right);
     }
     false
 }
@@ -67,14 +82,18 @@ pub(crate) fn compare(
     r: Reply,
     number: usize,
     place: usize,
-    length: usize,
-    e: [u16; 1024],
+    right: Permutation,
 ) -> Tally {
-    tally::tallied(t, replied(r, number, place, 0, length, &e))
+    tally::tallied(t, replied(r, number, place, 0, right))
 }
 
-pub(crate) fn accepted(t: Tally, r: Reply, count: usize, length: usize, e: [u16; 1024]) -> Tally {
-    tally::tallied(t, replied(r, 0, 0, count, length, &e))
+pub(crate) fn accepted(t: Tally, r: Reply, n: usize, e: [u16; 1024]) -> Tally {
+    compare(t, r, 0, 0, record(e, n))
+}
+
+// The asking's reply: the number that the record carries, and the record.
+pub(crate) fn asked(t: Tally, r: Reply, right: Permutation) -> Tally {
+    tally::tallied(t, replied(r, 0, 0, right.fixed, right))
 }
 
 // The first of n entries that is n or more, or was marked before; else n.
@@ -140,13 +159,11 @@ pub(crate) fn exchange(e: [u16; 1024], i: usize, j: usize) -> [u16; 1024] {
 }
 
 // How many entries stay home, one taken off n for each that does not.
-pub(crate) fn fixed(e: &[u16; 1024], n: usize) -> usize
-    requires { ⌜ n ≤ 1024 ⌝ }
-{
+pub(crate) fn fixed(e: &[u16; 1024], n: usize) -> usize {
     let mut c = n;
     let mut i = 0;
     while i < n {
-        if wide(e[i]) != i {
+        if wide(at(e, i)) != i {
             c = std::num::wrapping_sub_usize(c, 1);
         }
         i += 1;

@@ -1,12 +1,21 @@
-// The 1,024 entries of a permutation record, those past its length 0: question 6 of them, and the lists that they come to
-// hold. The calls on records keep no log, and 01 asks only of calls that do that no index depends on an entry: `combine` and
-// `invert` index by one. The questions are the record's calls' (crate permutation_record): what is asked here, they ensure.
+// The 1,024 entries of a permutation record, those past its length 0: question 6 of them, the lists that they come to hold,
+// and how many entries of a list stay home. The calls on records keep no log, and 01 asks only of calls that do that no index
+// depends on an entry: `combine` and `invert` index by one. The questions are the record's calls' (crate permutation_record):
+// what is asked here, they ensure.
 ghost use mathlib.Core.Path.{_≡_};
-ghost use Prim.Native.Nat.{_≤_, _<_};
+ghost use Prim.Native.Nat.{_+_, _≤_, _<_};
+ghost use lib.Dec.{eqb};
 ghost use lib.ListN.{length, take};
 ghost use Rattle.answers.specs.Questions.{firstBad};
-ghost use Rattle.permutation.specs.Permutations.{IsPermutation, identity, exchanged, combined, inverted, fixedPoints};
+ghost use Rattle.permutation.specs.Permutations.{IsPermutation, bit, identity, exchanged, combined, inverted, fixedPoints};
 ghost use Rattle.permutation_entries.specs.Entries.{goodInRecord, padded};
+ghost use Rattle.permutation_entries.specs.Fillings.{countedOf};
+
+// Entries that a loop filled, with how many of them stay home.
+pub struct Counted {
+    pub entries: [u16; 1024],
+    pub fixed: usize,
+}
 
 fn wide(x: u16) -> usize
     ensures { λ r. ⌜ r ≡ x ⌝ }
@@ -14,10 +23,18 @@ fn wide(x: u16) -> usize
     x as usize
 }
 
+// 1 where the entry x at place i stays home, in 16 bits so that a loop takes several entries at a time.
+fn home(x: u16, i: usize) -> u16
+    requires { ⌜ i < 1024 ⌝ }
+    ensures { λ r. ⌜ (r ≡ bit (eqb x i)) × (r ≤ 1) ⌝ }
+{
+    (x == i as u16) as u16
+}
+
 // Question 6 of a record's entries: its list, and past that nothing but 0. 1,024 where nothing is bad.
-pub fn first_bad(n: usize, e: [u16; 1024]) -> usize
-    requires { ⌜ n ≤ 1024 ⌝ }
-    ensures { λ r. ⌜ r ≡ firstBad (goodInRecord n e) 1024 ⌝ }
+pub fn first_bad(n: usize, e: &[u16]) -> usize
+    requires { ⌜ (n ≤ 1024) × (length (now e) ≡ 1024) ⌝ }
+    ensures { λ r. ⌜ r ≡ firstBad (goodInRecord n (now (e .entry))) 1024 ⌝ }
 {
     let mut low = permutation::first_bad_entry(&e[..n]);
     let mut i = n;
@@ -42,18 +59,24 @@ pub fn identity(n: usize) -> [u16; 1024]
     e
 }
 
-pub fn of_list(list: &[u16]) -> [u16; 1024]
+pub fn of_list(list: &[u16]) -> Counted
     requires { ⌜ length (now list) ≤ 1024 ⌝ }
-    ensures { λ r. ⌜ r ≡ padded (now (list .entry)) ⌝ }
+    ensures { λ r. ⌜ r ≡ countedOf (now (list .entry)) ⌝ }
 {
     let n = list.len();
     let mut e = [0u16; 1024];
+    let mut fixed = 0u16;
     let mut i = 0;
     while i < n {
-        e[i] = list[i];
+        let x = list[i];
+        e[i] = x;
+        fixed += home(x, i);
         i += 1;
     }
-    e
+    Counted {
+        entries: e,
+        fixed: wide(fixed),
+    }
 }
 
 pub fn exchange(entries: [u16; 1024], i: usize, j: usize) -> [u16; 1024]
@@ -68,19 +91,36 @@ pub fn exchange(entries: [u16; 1024], i: usize, j: usize) -> [u16; 1024]
     e
 }
 
+// How many entries stay home once x at place i and y at place j are exchanged, from how many do before.
+pub fn fixed_exchanged(fixed: usize, i: usize, x: u16, j: usize, y: u16) -> usize
+    requires { ⌜ (fixed ≤ 1024) × (i < 1024) × (j < 1024)
+        × (bit (eqb x i) + bit (eqb y j) ≤ fixed + (bit (eqb y i) + bit (eqb x j))) ⌝ }
+    ensures { λ r. ⌜ r + (bit (eqb x i) + bit (eqb y j)) ≡ fixed + (bit (eqb y i) + bit (eqb x j)) ⌝ }
+{
+    let come = home(y, i) + home(x, j);
+    let gone = home(x, i) + home(y, j);
+    fixed + wide(come) - wide(gone)
+}
+
 // First `first`, then `second`: entry i is second[first[i]].
-pub fn combine(n: usize, first: [u16; 1024], second: [u16; 1024]) -> [u16; 1024]
+pub fn combine(n: usize, first: [u16; 1024], second: [u16; 1024]) -> Counted
     requires { ⌜ (n ≤ 1024) × IsPermutation n (take n first) ⌝ }
-    ensures { λ r. ⌜ r ≡ padded (combined (take n first) (take n second)) ⌝ }
+    ensures { λ r. ⌜ r ≡ countedOf (combined (take n first) (take n second)) ⌝ }
 {
     let mut e = [0u16; 1024];
+    let mut fixed = 0u16;
     let mut i = 0;
     while i < n {
         let k = wide(first[i]);
-        e[i] = second[k];
+        let x = second[k];
+        e[i] = x;
+        fixed += home(x, i);
         i += 1;
     }
-    e
+    Counted {
+        entries: e,
+        fixed: wide(fixed),
+    }
 }
 
 pub fn invert(n: usize, f: [u16; 1024]) -> [u16; 1024]
@@ -97,16 +137,17 @@ pub fn invert(n: usize, f: [u16; 1024]) -> [u16; 1024]
     back
 }
 
-// How many of the first n entries stay home.
-pub fn fixed_points(n: usize, e: [u16; 1024]) -> usize
-    requires { ⌜ n ≤ 1024 ⌝ }
-    ensures { λ r. ⌜ r ≡ fixedPoints (take n e) ⌝ }
+// How many entries stay home.
+pub fn fixed_points(list: &[u16]) -> usize
+    requires { ⌜ length (now list) ≤ 1024 ⌝ }
+    ensures { λ r. ⌜ r ≡ fixedPoints (now (list .entry)) ⌝ }
 {
-    let mut c = 0;
+    let n = list.len();
+    let mut c = 0u16;
     let mut i = 0;
     while i < n {
-        c += (wide(e[i]) == i) as usize;
+        c += home(list[i], i);
         i += 1;
     }
-    c
+    wide(c)
 }

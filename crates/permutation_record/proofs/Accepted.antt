@@ -1,6 +1,6 @@
--- Accepted calls on records: when a call is accepted, and that it then gives a well-formed record.
+-- When each call on records is accepted, and what it gives then.
 -- Assumes nothing.
-use mathlib.Core.Path.{_≡_, refl, sym, ap, _∙_, subst}
+use mathlib.Core.Path.{_≡_, refl, sym, ap, _∙_}
 use mathlib.Core.Bool.{true}
 use mathlib.Core.List.{List, [], _∷_}
 use Prim.Native.Nat.{ℕ, _+_, _-_, _≤_, _<_}
@@ -11,19 +11,17 @@ use lib.ListN.{length, getD, replicate, length-append, length-replicate, List·g
 use lib.Seq.{take-at, getD-append-add}
 use borrow.Author.Tests.{le-leb, eq-eqb}
 use Rattle.answers.specs.Answers.{accepted}
-use Rattle.answers.specs.Questions.{askEach, firstBad}
+use Rattle.answers.specs.Questions.{ask, askEach, firstBad}
 use Rattle.answers.proofs.Questions.{asked-yes, none-bad}
 use Rattle.permutation.specs.Permutations.{IsPermutation, identity, exchanged, combined, inverted, fixedPoints}
 use Rattle.permutation_record.specs.Records.{recordOf, listOf, questionsOf, WellFormed, identityCall, fromListCall, exchangeCall, combineCall, inverseCall, fixedPointsCall}
 use Rattle.permutation_record.specs.declared.Permutation.{Permutation}
 use Rattle.permutation.proofs.Permutations.{good-when, same-good, permutation-passes}
 use Rattle.permutation.proofs.Tables.{getD-blank}
-use Rattle.permutation.proofs.Laws.{identity-permutation, exchanged-permutation, combined-permutation}
-use Rattle.permutation.proofs.Inverses.{inverted-permutation}
 use Rattle.permutation_entries.specs.Entries.{padded, goodInRecord}
 use Rattle.permutation_entries.proofs.Entries.{good-in-list, good-past}
-use Rattle.permutation_record.proofs.Records.{Sound, sound}
-use Rattle.permutation_record.proofs.Replies.{reply, replies-accepted, identity-done, list-done, exchange-done, combine-done}
+use Rattle.permutation_record.proofs.Records.{sound}
+use Rattle.permutation_record.proofs.Replies.{reply, replies-accepted, identity-done, list-done, exchange-done, combine-done, asking-given, asking-back}
 
 -- ---- the record of a permutation of at most 1,024 places passes questions 1 and 6
 
@@ -58,8 +56,10 @@ module _ (n : ℕ) (es : List ℕ) (P : IsPermutation n es) (small : n ≤ 1024)
   unfolding recordOf
   record-well-formed =
       let good = goodInRecord (length es) (padded es) in
-      asked-yes 1 0 (leb (length es) 1024) (askEach 6 good 1024 ∷ []) (le-leb (length es) 1024 (omega (arith, P .whole)))
-      ∙ asked-yes 6 (firstBad good 1024) (eqb (firstBad good 1024) 1024) [] (eq-eqb _ _ (none-bad good 1024 (λ i l. good-all i)))
+      let number = ask 6 1024 (eqb (fixedPoints es) (fixedPoints (listOf (recordOf es)))) in
+      asked-yes 1 0 (leb (length es) 1024) (askEach 6 good 1024 ∷ number ∷ []) (le-leb (length es) 1024 (omega (arith, P .whole)))
+      ∙ asked-yes 6 (firstBad good 1024) (eqb (firstBad good 1024) 1024) (number ∷ []) (eq-eqb _ _ (none-bad good 1024 (λ i l. good-all i)))
+      ∙ asked-yes 6 1024 (number .yes) [] (eq-eqb _ _ (ap fixedPoints (sym (list-of-record es))))
 
 -- ---- when each call is accepted, and what it gives then
 
@@ -67,39 +67,31 @@ module _ (n : ℕ) (es : List ℕ) (P : IsPermutation n es) (small : n ≤ 1024)
 pub identity-accepted : (n : ℕ) → n ≤ 1024 → identityCall n ≡ reply (accepted 0) (recordOf (identity n))
 identity-accepted n h = sym (identity-done n h refl refl)
 
-pub identity-well-formed : (n : ℕ) → n ≤ 1024 → WellFormed (recordOf (identity n))
-identity-well-formed n h = record-well-formed n (identity n) (identity-permutation n) h
-
 -- from a list: every permutation of at most 1,024 places
 pub list-accepted : (n : ℕ) (es : List ℕ) → IsPermutation n es → n ≤ 1024 → fromListCall es ≡ reply (accepted 0) (recordOf es)
 list-accepted n es P h =
     sym (list-done es (omega (arith, P .whole)) refl (omega (arith, permutation-passes n es P)) refl refl)
 
-module _ (p : Permutation) (room : length (p .entries) ≡ 1024) (w : WellFormed p) where
-  S : Sound p
-  S = sound p room w
+-- the asking: every record of at most 1,024 places, whatever its entries and its number are
+pub fixed-points-accepted : (p : Permutation) → p .length ≤ 1024 → fixedPointsCall p ≡ reply (accepted (p .fixed)) p
+fixed-points-accepted p h = sym (asking-back p (asking-given (p .length) (p .fixed) h))
 
-  module _ (i j : ℕ) (li : i < p .length) (lj : j < p .length) where
-    pub exchange-accepted : exchangeCall p i j ≡ reply (accepted 0) (recordOf (exchanged (listOf p) i j))
-    exchange-accepted = sym (exchange-done p i j w li lj refl refl)
+-- it is the true number in a record that passes
+pub fixed-points-true : (p : Permutation) → length (p .entries) ≡ 1024 → WellFormed p
+    → fixedPointsCall p ≡ reply (accepted (fixedPoints (listOf p))) p
+fixed-points-true p room w =
+    let S = sound p room w in
+    fixed-points-accepted p (S .small) ∙ ap (λ c. reply (accepted c) p) (S .fixed-true)
 
-    pub exchange-well-formed : WellFormed (recordOf (exchanged (listOf p) i j))
-    exchange-well-formed = record-well-formed (p .length) _ (exchanged-permutation i j (p .length) (listOf p) (S .permutation) li lj) (S .small)
+-- the others: records that pass, places below the length, two of one length
+module _ (p : Permutation) (w : WellFormed p) where
+  pub exchange-accepted : (i j : ℕ) → i < p .length → j < p .length
+      → exchangeCall p i j ≡ reply (accepted 0) (recordOf (exchanged (listOf p) i j))
+  exchange-accepted i j li lj = sym (exchange-done p i j w li lj refl refl)
 
   pub inverse-accepted : inverseCall p ≡ reply (accepted 0) (recordOf (inverted (listOf p)))
   inverse-accepted = sym (replies-accepted (questionsOf p) 0 (recordOf (inverted (listOf p))) p w refl refl)
 
-  pub inverse-well-formed : WellFormed (recordOf (inverted (listOf p)))
-  inverse-well-formed = record-well-formed (p .length) _ (inverted-permutation (p .length) (listOf p) (S .permutation)) (S .small)
-
-  pub fixed-points-accepted : fixedPointsCall p ≡ reply (accepted (fixedPoints (listOf p))) p
-  fixed-points-accepted = sym (replies-accepted (questionsOf p) (fixedPoints (listOf p)) p p w refl refl)
-
-  module _ (q : Permutation) (room-q : length (q .entries) ≡ 1024) (x : WellFormed q) (alike : p .length ≡ q .length) where
-    pub combine-accepted : combineCall p q ≡ reply (accepted 0) (recordOf (combined (listOf p) (listOf q)))
-    combine-accepted = sym (combine-done p q w x alike refl refl)
-
-    pub combine-well-formed : WellFormed (recordOf (combined (listOf p) (listOf q)))
-    combine-well-formed =
-        let Q : IsPermutation (p .length) (listOf q) = subst (λ (n : ℕ). IsPermutation n (listOf q)) (sym alike) (sound q room-q x .permutation) in
-        record-well-formed (p .length) _ (combined-permutation (p .length) (listOf p) (S .permutation) (listOf q) Q) (S .small)
+  pub combine-accepted : (q : Permutation) → WellFormed q → p .length ≡ q .length
+      → combineCall p q ≡ reply (accepted 0) (recordOf (combined (listOf p) (listOf q)))
+  combine-accepted q x alike = sym (combine-done p q w x alike refl refl)

@@ -1,3 +1,5 @@
 pub mod Records
 pub mod Replies
 pub mod Accepted
+pub mod Refused
+pub mod Made

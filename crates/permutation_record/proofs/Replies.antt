@@ -13,11 +13,11 @@ use Rattle.answers.specs.declared.Answer.{Answer}
 use Rattle.answers.specs.Answers.{refusal, accepted}
 use Rattle.answers.specs.Questions.{Question, ask, askEach, firstBad, Verdict, allYes, noAt, firstNo}
 use Rattle.answers.specs.Outcomes.{answerOf}
-use Rattle.answers.proofs.Outcomes.{accepted-when}
+use Rattle.answers.proofs.Outcomes.{Numbered, accepted-when}
 use Rattle.answers.proofs.Questions.{asked-yes, asked-no, asked-both, asked-first, bad-within}
-use Rattle.permutation.specs.Permutations.{goodEntry, firstBadEntry, tabulate, identity, exchanged, combined}
+use Rattle.permutation.specs.Permutations.{goodEntry, firstBadEntry, tabulate, identity, exchanged, combined, fixedPoints}
 use Rattle.permutation_entries.specs.Entries.{goodInRecord}
-use Rattle.permutation_record.specs.Records.{recordOf, listOf, questionsOf, WellFormed, exchangeAsks, combineAsks, replied, identityCall, fromListCall, exchangeCall, combineCall}
+use Rattle.permutation_record.specs.Records.{recordOf, listOf, questionsOf, WellFormed, exchangeAsks, combineAsks, recordAfter, replied, identityCall, fromListCall, exchangeCall, combineCall, lengthAsks, fixedPointsCall}
 use Rattle.permutation_record.specs.declared.Permutation.{Permutation}
 use Rattle.permutation_record.specs.declared.Reply.{Reply}
 
@@ -44,9 +44,13 @@ pub stopped : (v : Verdict) {a : Answer} → a ≡ answerOf v 0 → a .number �
 stopped allYes e n = absurd (n (ap (λ (b : Answer). b .number) e))
 stopped (noAt q k) e n = record { number = q; place = k; at = refl; says = e }
 
+-- the questions have numbers
+pub record-numbered : (p : Permutation) → Numbered (questionsOf p)
+record-numbered p = (omega arith, (omega arith, (omega arith, tt)))
+
 -- an answer with none: the record passed
 pub passed-record : (p : Permutation) {a : Answer} → a ≡ answerOf (firstNo (questionsOf p)) 0 → a .number ≡ 0 → WellFormed p
-passed-record p e n = accepted-when (questionsOf p) 0 (omega arith, (omega arith, tt)) (sym (ap (λ (b : Answer). b .number) e) ∙ n)
+passed-record p e n = accepted-when (questionsOf p) 0 (record-numbered p) (sym (ap (λ (b : Answer). b .number) e) ∙ n)
 
 pub accepted-record : (p : Permutation) {a : Answer} → a ≡ answerOf (firstNo (questionsOf p)) 0 → WellFormed p → a ≡ accepted 0
 accepted-record p e w = e ∙ ap (λ v. answerOf v 0) w
@@ -61,10 +65,34 @@ module _ (p : Permutation) where
     pub examined-bad : low < 1024 → refusal 6 low ≡ answerOf (firstNo (questionsOf p)) 0
     examined-bad l = rw (le-leb _ _ small, ← e, ne-eqb low 1024 (λ q. omega arith))
 
-    pub examined-good : 1024 ≤ low → accepted 0 ≡ answerOf (firstNo (questionsOf p)) 0
-    examined-good l =
-        let z : low ≡ 1024 = omega (arith, bad-within (goodInRecord (p .length) (p .entries)) 1024) in
-        rw (le-leb _ _ small, ← e, eq-eqb low 1024 z)
+    module _ (l : 1024 ≤ low) {home : ℕ} (h : home ≡ fixedPoints (listOf p)) where
+      all-passed : firstBad (goodInRecord (p .length) (p .entries)) 1024 ≡ 1024
+      all-passed = omega (arith, bad-within (goodInRecord (p .length) (p .entries)) 1024)
+
+      pub examined-number : p .fixed ≢ home → refusal 6 1024 ≡ answerOf (firstNo (questionsOf p)) 0
+      examined-number n = rw (le-leb _ _ small, eq-eqb _ _ all-passed, ← h, ne-eqb _ _ n)
+
+      pub examined-good : p .fixed ≡ home → accepted 0 ≡ answerOf (firstNo (questionsOf p)) 0
+      examined-good n = rw (le-leb _ _ small, eq-eqb _ _ all-passed, ← h, eq-eqb _ _ n)
+
+-- ---- the asking, which looks at the length and the number alone
+
+module _ (length fixed : ℕ) where
+  pub asking-large : 1024 < length → refusal 1 0 ≡ answerOf (firstNo (lengthAsks length)) fixed
+  asking-large l = rw (lt-leb _ _ l)
+
+  pub asking-given : length ≤ 1024 → accepted fixed ≡ answerOf (firstNo (lengthAsks length)) fixed
+  asking-given h = rw (le-leb _ _ h)
+
+-- it gives the record back, accepted or refused
+pub asking-back : (p : Permutation) {a : Answer} → a ≡ answerOf (firstNo (lengthAsks (p .length))) (p .fixed)
+    → reply a p ≡ fixedPointsCall p
+unfolding replied
+asking-back p e = rw (e, back (firstNo (lengthAsks (p .length))))
+  where
+    back : (v : Verdict) → recordAfter v p p ≡ p
+    back allYes = refl
+    back (noAt q k) = refl
 
 -- ---- a call's questions about the records it is handed, and the last one
 

@@ -1,5 +1,5 @@
 -- The permutation record and its calls (01: open order, a record by value of the length and 1,024 entries, those past the
--- length 0). Assumes nothing: these are definitions.
+-- length 0; 02, F-2: it carries the number of entries that stay home). Assumes nothing: these are definitions.
 use mathlib.Core.Path.{_≡_}
 use mathlib.Core.Bool.{_&&_}
 use mathlib.Core.List.{List, [], _∷_, _++_}
@@ -17,7 +17,7 @@ use Rattle.permutation_record.specs.declared.Reply.{Reply}
 
 -- the record of a list: the one place where a record is made
 unfoldable pub recordOf : List ℕ → Permutation
-recordOf es = record { length = length es; entries = padded es }
+recordOf es = record { length = length es; entries = padded es; fixed = fixedPoints es }
 
 -- the list of a record
 abbrev pub listOf : Permutation → List ℕ
@@ -25,9 +25,17 @@ listOf p = take (p .length) (p .entries)
 
 -- ---- its questions
 
--- 1 and 6 of a record handed in
+-- 1 of a length
+abbrev pub lengthAsks : ℕ → List Question
+lengthAsks n = ask 1 0 (leb n 1024) ∷ []
+
+-- 1 and 6 of a record handed in; a wrong number is bad at place 1,024, after all entries have passed
 abbrev pub questionsOf : Permutation → List Question
-questionsOf p = ask 1 0 (leb (p .length) 1024) ∷ askEach 6 (goodInRecord (p .length) (p .entries)) 1024 ∷ []
+questionsOf p =
+    ask 1 0 (leb (p .length) 1024)
+    ∷ askEach 6 (goodInRecord (p .length) (p .entries)) 1024
+    ∷ ask 6 1024 (eqb (p .fixed) (fixedPoints (listOf p)))
+    ∷ []
 
 -- a record that passes them
 abbrev pub WellFormed : Permutation → Type 0
@@ -55,7 +63,7 @@ replied qs count result handed = record { answer = answerOf (firstNo qs) count; 
 
 -- 01: fresh. Handed no record, it gives the record of length 0 where it is refused
 abbrev pub identityCall : ℕ → Reply
-identityCall n = replied (ask 1 0 (leb n 1024) ∷ []) 0 (recordOf (identity n)) (recordOf [])
+identityCall n = replied (lengthAsks n) 0 (recordOf (identity n)) (recordOf [])
 
 abbrev pub fromListCall : List ℕ → Reply
 fromListCall es = replied (fromListAsks es) 0 (recordOf es) (recordOf [])
@@ -69,6 +77,6 @@ combineCall p q = replied (combineAsks p q) 0 (recordOf (combined (listOf p) (li
 abbrev pub inverseCall : Permutation → Reply
 inverseCall p = replied (questionsOf p) 0 (recordOf (inverted (listOf p))) p
 
--- 01: the number of entries that stay home, counted on each asking; the record handed in comes back
+-- 02, F-2: the number of entries that stay home as the record carries it, true or not; the record comes back as it was handed in
 abbrev pub fixedPointsCall : Permutation → Reply
-fixedPointsCall p = replied (questionsOf p) (fixedPoints (listOf p)) p p
+fixedPointsCall p = replied (lengthAsks (p .length)) (p .fixed) p p

@@ -1,17 +1,18 @@
-// The permutation record and its calls (01: open order).
+// The permutation record and its calls (01: open order; 02, F-2: it carries how many entries stay home).
 ghost use mathlib.Core.Path.{_≡_};
 ghost use Prim.Native.Nat.{_≤_, _<_};
 ghost use lib.ListN.{length};
 ghost use Rattle.answers.specs.Questions.{firstNo};
 ghost use Rattle.answers.specs.Outcomes.{answerOf};
-ghost use Rattle.permutation.specs.Permutations.{IsPermutation, identity, exchanged, combined, inverted};
-ghost use Rattle.permutation_record.specs.Records.{questionsOf, WellFormed, recordOf, listOf, identityCall, fromListCall, exchangeCall, combineCall, inverseCall, fixedPointsCall};
+ghost use Rattle.permutation.specs.Permutations.{identity, exchanged, combined, inverted};
+ghost use Rattle.permutation_record.specs.Records.{questionsOf, WellFormed, recordOf, listOf, identityCall, fromListCall, exchangeCall, combineCall, inverseCall, lengthAsks, fixedPointsCall};
 
-// A permutation of 0 .. length - 1 by value; the entries past the length are 0. Any record can arrive: the fields are
-// public, so each call asks questions 1 and 6 of what it is handed.
+// A permutation of 0 .. length - 1 by value; the entries past the length are 0, and `fixed` says how many entries stay home.
+// Any record can arrive: the fields are public, so each call but `fixed_points` asks questions 1 and 6 of what it is handed.
 pub struct Permutation {
     pub length: usize,
     pub entries: [u16; 1024],
+    pub fixed: usize,
 }
 
 // What a call gives: its answer, and a record.
@@ -21,10 +22,14 @@ pub struct Reply {
 }
 
 // The one place where a record is made.
-fn build(length: usize, entries: [u16; 1024]) -> Permutation
-    ensures { λ r. ⌜ r ≡ record { length = length; entries = entries } ⌝ }
+fn build(length: usize, entries: [u16; 1024], fixed: usize) -> Permutation
+    ensures { λ r. ⌜ r ≡ record { length = length; entries = entries; fixed = fixed } ⌝ }
 {
-    Permutation { length, entries }
+    Permutation {
+        length,
+        entries,
+        fixed,
+    }
 }
 
 fn give(answer: answers::Answer, permutation: Permutation) -> Reply
@@ -43,12 +48,28 @@ fn examine(p: Permutation) -> answers::Answer
     if 1024 < p.length {
         return answers::refuse(1, 0);
     }
+    let n = p.length;
     let e = p.entries;
-    let low = permutation_entries::first_bad(p.length, e);
+    let low = permutation_entries::first_bad(n, &e);
     if low < 1024 {
         return answers::refuse(6, low);
     }
+    let home = permutation_entries::fixed_points(&e[..n]);
+    if p.fixed != home {
+        return answers::refuse(6, 1024);
+    }
     answers::accept(0)
+}
+
+// What the asking answers: it follows from the length and the number alone. Public only for the call for C, which need not
+// make a record.
+pub fn fixed_points_of(length: usize, fixed: usize) -> answers::Answer
+    ensures { λ r. ⌜ r ≡ answerOf (firstNo (lengthAsks length)) fixed ⌝ }
+{
+    if 1024 < length {
+        return answers::refuse(1, 0);
+    }
+    answers::accept(fixed)
 }
 
 // ---- the records that the calls give
@@ -57,41 +78,46 @@ fn identity_record(n: usize) -> Permutation
     requires { ⌜ n ≤ 1024 ⌝ }
     ensures { λ r. ⌜ r ≡ recordOf (identity n) ⌝ }
 {
-    build(n, permutation_entries::identity(n))
+    build(n, permutation_entries::identity(n), n)
 }
 
 fn list_record(list: &[u16]) -> Permutation
     requires { ⌜ length (now list) ≤ 1024 ⌝ }
     ensures { λ r. ⌜ r ≡ recordOf (now (list .entry)) ⌝ }
 {
-    build(list.len(), permutation_entries::of_list(list))
+    let made = permutation_entries::of_list(list);
+    let e = made.entries;
+    build(list.len(), e, made.fixed)
 }
 
 fn exchanged_record(p: Permutation, i: usize, j: usize) -> Permutation
-    requires { ⌜ (p .length ≤ 1024) × (i < p .length) × (j < p .length) × WellFormed p ⌝ }
+    requires { ⌜ WellFormed p × (p .length ≤ 1024) × (i < p .length) × (j < p .length) ⌝ }
     ensures { λ r. ⌜ r ≡ recordOf (exchanged (listOf p) i j) ⌝ }
 {
     let e = p.entries;
-    build(p.length, permutation_entries::exchange(e, i, j))
+    let fixed = permutation_entries::fixed_exchanged(p.fixed, i, e[i], j, e[j]);
+    build(p.length, permutation_entries::exchange(e, i, j), fixed)
 }
 
 fn combined_record(first: Permutation, second: Permutation) -> Permutation
-    requires { ⌜ (first .length ≤ 1024) × (first .length ≡ second .length) × IsPermutation (first .length) (listOf first) ⌝ }
+    requires { ⌜ WellFormed first × (first .length ≡ second .length) ⌝ }
     ensures { λ r. ⌜ r ≡ recordOf (combined (listOf first) (listOf second)) ⌝ }
 {
     let n = first.length;
     let f = first.entries;
     let s = second.entries;
-    build(n, permutation_entries::combine(n, f, s))
+    let made = permutation_entries::combine(n, f, s);
+    let e = made.entries;
+    build(n, e, made.fixed)
 }
 
 fn inverted_record(p: Permutation) -> Permutation
-    requires { ⌜ (p .length ≤ 1024) × IsPermutation (p .length) (listOf p) ⌝ }
+    requires { ⌜ WellFormed p ⌝ }
     ensures { λ r. ⌜ r ≡ recordOf (inverted (listOf p)) ⌝ }
 {
     let n = p.length;
     let e = p.entries;
-    build(n, permutation_entries::invert(n, e))
+    build(n, permutation_entries::invert(n, e), p.fixed)
 }
 
 impl Permutation {
@@ -162,16 +188,11 @@ impl Permutation {
         give(asked, inverted_record(self))
     }
 
-    // The number of entries that stay home, as the count of the answer; the record comes back as it was handed in.
+    // The number of entries that stay home as the record carries it, as the count of the answer; the record comes back as it
+    // was handed in.
     pub fn fixed_points(self) -> Reply
         ensures { λ r. ⌜ r ≡ fixedPointsCall self ⌝ }
     {
-        let asked = examine(self);
-        if asked.number != 0 {
-            return give(asked, self);
-        }
-        let e = self.entries;
-        let home = permutation_entries::fixed_points(self.length, e);
-        give(answers::accept(home), self)
+        give(fixed_points_of(self.length, self.fixed), self)
     }
 }

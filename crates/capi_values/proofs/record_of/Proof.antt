@@ -1,6 +1,5 @@
 -- Assumes nothing.
 use borrow.Author.Needs.{needs}
-use mathlib.Core.Path.{refl}
 use native.Mathlib.Omega.{arith}
 use Prim.Native.Nat.{_-_}
 use lib.ListN.{getD}
@@ -9,10 +8,10 @@ use Rattle.capi_values.proofs.record_of.Statement.{statement}
 use Rattle.capi_values.proofs.record_of.Tie as tie
 
 abbrev Inv-loop : tie.InvT-loop
-Inv-loop entries e₀ i₀ e i = Filling (λ j. getD entries j 0) e₀ e i
+Inv-loop entries fixed e₀ i₀ e i = Filling (λ j. getD entries j 0) e₀ e i
 
 abbrev μ-loop : tie.MeasureT-loop
-μ-loop entries e₀ i₀ e i = 1024 - i
+μ-loop entries fixed e₀ i₀ e i = 1024 - i
 
 loop-holds : tie.Need-loop-holds Inv-loop μ-loop
 loop-holds c = filling-starts _ _
@@ -36,7 +35,7 @@ loop-again : tie.Need-loop-again Inv-loop μ-loop
 loop-again c = filling-more _ _ (omega arith) (c .at .ensures) (c .before .before .loop .inv)
 
 returns : tie.Need-returns Inv-loop μ-loop
-returns c = record-filled _ (search needs) (omega arith) (c .before .loop .inv)
+returns c = record-filled _ _ (search needs) (omega arith) (c .before .loop .inv)
 
 pub record-of-spec : {M : Type 1} → statement M
 record-of-spec =

@@ -1,6 +1,6 @@
 -- Assumes nothing.
 use Rattle.capi_values.proofs.Crossing.{number-refused, number-given}
-use mathlib.Core.Path.{ap, _∙_}
+use mathlib.Core.Path.{_∙_}
 use borrow.Author.Needs.{needs}
 use Rattle.capi_values.proofs.tell_number.Statement.{statement}
 use Rattle.capi_values.proofs.tell_number.Tie as tie

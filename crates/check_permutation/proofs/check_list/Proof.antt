@@ -18,8 +18,8 @@ slice-aggregate-from-list c = sym (length-take-le _ _ (search needs))
 from-list-requires : tie.Need-from-list-requires
 from-list-requires c κs = search needs
 
-compare-requires : tie.Need-compare-requires
-compare-requires c κs = search needs
+of-none-requires : tie.Need-of-none-requires
+of-none-requires c κs = search needs
 
 returns : tie.Need-returns
 returns c = search needs
@@ -38,7 +38,7 @@ check-list-spec =
     array-share-prefix-e
     slice-aggregate-from-list
     from-list-requires
-    compare-requires
+    of-none-requires
     returns
     accepted-requires
     returns-2)

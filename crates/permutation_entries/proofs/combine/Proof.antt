@@ -1,24 +1,25 @@
 -- `permutation_entries::combine` meets its contract.
 -- Assumes nothing.
-use Rattle.permutation.specs.Permutations.{IsPermutation}
 use borrow.Author.Needs.{needs}
 use mathlib.Core.Path.{_≡_, refl}
 use Prim.Native.Nat.{_-_, _<_}
 use native.Mathlib.Omega.{arith}
 use lib.ListN.{length, getD, take}
 use lib.Seq.{getD-take}
-use Rattle.permutation_entries.proofs.Fillings.{Filling, filling-starts, filling-more, combined-read, combined-filled}
+use Rattle.permutation.specs.Permutations.{IsPermutation}
+use Rattle.permutation_entries.proofs.Fillings.{Filling, filling-starts, filling-more, Counting, counting-starts, counting-more, combined-read, combined-filled}
 use Rattle.permutation_entries.proofs.combine.Statement.{statement}
 use Rattle.permutation_entries.proofs.combine.Tie as tie
 
 abbrev Inv-loop : tie.InvT-loop
-Inv-loop n f s e₀ i₀ e i = Filling (λ j. j) (λ j. getD (take n s) (getD (take n f) j 0) 0) n e i
+Inv-loop n f s e₀ fixed₀ i₀ e fixed i =
+    Filling (λ j. j) (λ j. getD (take n s) (getD (take n f) j 0) 0) n e i × Counting (λ j. getD (take n s) (getD (take n f) j 0) 0) fixed i
 
 abbrev μ-loop : tie.MeasureT-loop
-μ-loop n f s e₀ i₀ e i = n - i
+μ-loop n f s e₀ fixed₀ i₀ e fixed i = n - i
 
 loop-holds : tie.Need-loop-holds Inv-loop μ-loop
-loop-holds c = filling-starts _ _ _
+loop-holds c = (filling-starts _ _ _, counting-starts _)
 
 mul-wide : tie.Need-mul-wide Inv-loop μ-loop
 mul-wide c = search needs
@@ -37,17 +38,23 @@ entry-below c =
     let i = c .before .before .loop .i in
     omega (arith, c .wide .ensures, P .below i (omega arith), getD-take (a .n) (a .t2) i 0 (omega arith))
 
+mul-x : tie.Need-mul-x Inv-loop μ-loop
+mul-x c = record { fits = omega (arith, entry-below c) }
+
+array-read-x : tie.Need-array-read-x Inv-loop μ-loop
+array-read-x c = omega (arith, entry-below c)
+
 mul-e : tie.Need-mul-e Inv-loop μ-loop
-mul-e c = record { fits = omega (arith, entry-below c) }
-
-array-read-e : tie.Need-array-read-e Inv-loop μ-loop
-array-read-e c = omega (arith, entry-below c)
-
-mul-e-2 : tie.Need-mul-e-2 Inv-loop μ-loop
-mul-e-2 c = search needs
+mul-e c = search needs
 
 array-write-e : tie.Need-array-write-e Inv-loop μ-loop
 array-write-e c = search needs
+
+home-requires : tie.Need-home-requires Inv-loop μ-loop
+home-requires c κs = search needs
+
+add-fixed : tie.Need-add-fixed Inv-loop μ-loop
+add-fixed c = search needs
 
 add-i : tie.Need-add-i Inv-loop μ-loop
 add-i c = search needs
@@ -57,16 +64,22 @@ loop-less c = search needs
 
 loop-again : tie.Need-loop-again Inv-loop μ-loop
 loop-again c =
-    let at = c .before .before .loop in
-    let a = c .before .before .before .args in
-    filling-more _ _ _ (omega arith) (omega arith) refl (omega arith) (λ j l q. omega arith)
-    (combined-read (a .n) (a .t2) (a .t3) (at .i) (omega arith) (c .wide .ensures) (entry-below c)) (at .inv)
+    let at = c .before .before .before .loop in
+    let a = c .before .before .before .before .args in
+    let read = combined-read (a .n) (a .t2) (a .t3) (at .i) (omega arith) (c .before .wide .ensures) (entry-below (c .before)) in (
+      filling-more _ _ _ (omega arith) (omega arith) refl (omega arith) (λ j l q. omega arith) read (at .inv .0),
+      counting-more _ read (c .home .ensures .0) (at .inv .1),
+    )
+
+wide-requires-2 : tie.Need-wide-requires-2 Inv-loop μ-loop
+wide-requires-2 c κs = search needs
 
 returns : tie.Need-returns Inv-loop μ-loop
 returns c =
-    let a = c .before .before .args in
+    let at = c .before .before .loop in
+    let a = c .before .before .before .args in
     let s : length (a .t2) ≡ 1024 = search needs in
-    combined-filled (a .n) (a .t2) (a .t3) (omega arith) s (omega arith) (c .before .loop .inv)
+    combined-filled (a .n) (a .t2) (a .t3) (omega arith) s (omega arith) (at .inv .0) (at .inv .1) (c .wide2 .ensures)
 
 pub combine-spec : {M : Type 1} → statement M
 combine-spec =
@@ -78,11 +91,14 @@ combine-spec =
     mul-wide
     array-read-wide
     wide-requires
+    mul-x
+    array-read-x
     mul-e
-    array-read-e
-    mul-e-2
     array-write-e
+    home-requires
+    add-fixed
     add-i
     loop-less
     loop-again
+    wide-requires-2
     returns)

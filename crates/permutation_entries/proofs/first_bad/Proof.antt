@@ -1,14 +1,13 @@
 -- `permutation_entries::first_bad` meets its contract.
 -- Assumes nothing.
-use borrow.Author.Needs.{needs}
-use mathlib.Core.Path.{_≡_, sym, _∙_}
+use mathlib.Core.Path.{sym, _∙_}
 use Prim.Native.Nat.{_-_, _≤_}
 use native.Mathlib.Omega.{arith}
-use lib.ListN.{length}
 use lib.Seq.{length-take-le}
-use Rattle.permutation_entries.specs.Entries.{goodInRecord}
 use Rattle.permutation.proofs.Sweeps.{Sweeping, sweeping-from, sweeping-more, sweeping-ends}
+use Rattle.permutation_entries.specs.Entries.{goodInRecord}
 use Rattle.permutation_entries.proofs.Entries.{good-past, front-bad}
+use borrow.Author.Needs.{needs}
 use Rattle.permutation_entries.proofs.first_bad.Statement.{statement}
 use Rattle.permutation_entries.proofs.first_bad.Tie as tie
 
@@ -18,29 +17,24 @@ Inv-loop n e low₀ i₀ low i = (n ≤ i) × Sweeping (goodInRecord n e) 1024 l
 abbrev μ-loop : tie.MeasureT-loop
 μ-loop n e low₀ i₀ low i = 1024 - i
 
-array-share-prefix-e : tie.Need-array-share-prefix-e Inv-loop μ-loop
-array-share-prefix-e c = let e : length (c .args .t2) ≡ 1024 = search needs in omega arith
-
 slice-aggregate-first-bad-entry : tie.Need-slice-aggregate-first-bad-entry Inv-loop μ-loop
-slice-aggregate-first-bad-entry c = let e : length (c .before .args .t2) ≡ 1024 = search needs in sym (length-take-le _ _ (omega arith))
+slice-aggregate-first-bad-entry c = sym (length-take-le _ _ (omega arith))
 
 first-bad-entry-requires : tie.Need-first-bad-entry-requires Inv-loop μ-loop
 first-bad-entry-requires c κs =
-    let a = c .before .args in
-    let e : length (a .t2) ≡ 1024 = search needs in
-    omega (arith, length-take-le (a .n) (a .t2) (omega arith))
+    let a = c .before .before .args in
+    omega (arith, length-take-le (a .n) (a .e .now) (omega arith))
 
 loop-holds : tie.Need-loop-holds Inv-loop μ-loop
 loop-holds c =
-    let a = c .before .before .args in
-    let e : length (a .t2) ≡ 1024 = search needs in
-    (omega arith, sweeping-from _ _ _ (omega arith) (c .first-bad-entry .ensures ∙ front-bad (a .n) (a .t2) (omega arith)))
+    let a = c .before .before .before .args in
+    (omega arith, sweeping-from _ _ _ (omega arith) (c .first-bad-entry .ensures ∙ front-bad (a .n) (a .e .now) (omega arith)))
 
 mul-sweep : tie.Need-mul-sweep Inv-loop μ-loop
 mul-sweep c = search needs
 
-array-read-sweep : tie.Need-array-read-sweep Inv-loop μ-loop
-array-read-sweep c = search needs
+shared-slice-read-sweep : tie.Need-shared-slice-read-sweep Inv-loop μ-loop
+shared-slice-read-sweep c = search needs
 
 sweep-requires : tie.Need-sweep-requires Inv-loop μ-loop
 sweep-requires c κs = search needs
@@ -53,9 +47,10 @@ loop-less c = search needs
 
 loop-again : tie.Need-loop-again Inv-loop μ-loop
 loop-again c =
-    let a = c .before .before .before .before .before .args in
-    let at = c .before .before .loop in
-    (omega arith, sweeping-more _ _ (omega arith) (sym (good-past (a .n) (a .t2) (at .i) (at .inv .0))) (c .sweep .ensures) (at .inv .1))
+    let b7 = c .before .before .before .before .before .before .before in
+    let at = c .before .before .before .loop in
+    let here = sym (good-past (b7 .args .n) (b7 .args .e .now) (at .i) (at .inv .0)) in
+    (omega arith, sweeping-more _ _ (omega arith) here (c .sweep .ensures) (at .inv .1))
 
 returns : tie.Need-returns Inv-loop μ-loop
 returns c = sweeping-ends _ _ (c .loop-test .left) (c .before .loop .inv .1)
@@ -66,12 +61,11 @@ first-bad-spec =
     (tie.spec
     Inv-loop
     μ-loop
-    array-share-prefix-e
     slice-aggregate-first-bad-entry
     first-bad-entry-requires
     loop-holds
     mul-sweep
-    array-read-sweep
+    shared-slice-read-sweep
     sweep-requires
     add-i
     loop-less

@@ -1,42 +1,34 @@
 -- `permutation_entries::fixed_points` meets its contract.
 -- Assumes nothing.
 use borrow.Author.Needs.{needs}
-use mathlib.Core.Path.{_≡_, sym, ap, _∙_}
+use mathlib.Core.Path.{refl, _∙_}
 use Prim.Native.Nat.{_-_, _≤_}
 use native.Mathlib.Omega.{arith}
-use lib.Dec.{eqb}
-use lib.ListN.{length, getD, take}
-use lib.Seq.{getD-take, length-take-le}
-use Rattle.permutation.specs.Permutations.{howMany}
-use Rattle.permutation.proofs.Sweeps.{bit-small, none-counted, one-counted, counted-within}
+use lib.ListN.{getD}
+use Rattle.permutation_entries.proofs.Fillings.{Counting, counting-starts, counting-more, counted}
 use Rattle.permutation_entries.proofs.fixed_points.Statement.{statement}
 use Rattle.permutation_entries.proofs.fixed_points.Tie as tie
 
 abbrev Inv-loop : tie.InvT-loop
-Inv-loop n e c₀ i₀ c i = (i ≤ n) × (c ≡ howMany (λ j. eqb (getD (take n e) j 0) j) i)
+Inv-loop list n c₀ i₀ c i = (i ≤ n) × Counting (λ j. getD list j 0) c i
 
 abbrev μ-loop : tie.MeasureT-loop
-μ-loop n e c₀ i₀ c i = n - i
+μ-loop list n c₀ i₀ c i = n - i
 
 loop-holds : tie.Need-loop-holds Inv-loop μ-loop
-loop-holds c = (omega arith, none-counted _)
+loop-holds c = (omega arith, counting-starts _)
 
-mul-wide : tie.Need-mul-wide Inv-loop μ-loop
-mul-wide c = search needs
+mul-home : tie.Need-mul-home Inv-loop μ-loop
+mul-home c = search needs
 
-array-read-wide : tie.Need-array-read-wide Inv-loop μ-loop
-array-read-wide c = search needs
+shared-slice-read-home : tie.Need-shared-slice-read-home Inv-loop μ-loop
+shared-slice-read-home c = search needs
 
-wide-requires : tie.Need-wide-requires Inv-loop μ-loop
-wide-requires c κs = search needs
-
-cast-c : tie.Need-cast-c Inv-loop μ-loop
-cast-c c = search needs
+home-requires : tie.Need-home-requires Inv-loop μ-loop
+home-requires c κs = search needs
 
 add-c : tie.Need-add-c Inv-loop μ-loop
-add-c c =
-    let a = c .before .before .before .args in
-    omega (arith, counted-within (λ j. eqb (getD (take (a .n) (a .t2)) j 0) j) (c .before .before .loop .i), bit-small (eqb (c .wide .result) (c .before .before .loop .i)))
+add-c c = search needs
 
 add-i : tie.Need-add-i Inv-loop μ-loop
 add-i c = search needs
@@ -46,17 +38,15 @@ loop-less c = search needs
 
 loop-again : tie.Need-loop-again Inv-loop μ-loop
 loop-again c =
-    let a = c .before .before .before .args in
-    let i = c .before .before .loop .i in
-    let w : c .wide .result ≡ getD (take (a .n) (a .t2)) i 0 = c .wide .ensures ∙ sym (getD-take (a .n) (a .t2) i 0 (omega arith)) in
-    (omega arith, rw w (one-counted (λ j. eqb (getD (take (a .n) (a .t2)) j 0) j) i (c .before .before .loop .inv .1)))
+    (omega arith, counting-more _ refl (c .home .ensures .0) (c .before .before .before .loop .inv .1))
+
+wide-requires : tie.Need-wide-requires Inv-loop μ-loop
+wide-requires c κs = search needs
 
 returns : tie.Need-returns Inv-loop μ-loop
 returns c =
-    let a = c .before .before .args in
-    let s : length (a .t2) ≡ 1024 = search needs in
-    let e : c .before .loop .i ≡ a .n = omega arith in
-    c .before .loop .inv .1 ∙ ap (howMany (λ j. eqb (getD (take (a .n) (a .t2)) j 0) j)) (e ∙ sym (length-take-le (a .n) (a .t2) (omega arith)))
+    c .wide .ensures
+    ∙ counted _ _ (c .before .before .before .before .args .list .now) (omega arith) refl (λ v l. refl) (c .before .before .loop .inv .1)
 
 pub fixed-points-spec : {M : Type 1} → statement M
 fixed-points-spec =
@@ -65,12 +55,12 @@ fixed-points-spec =
     Inv-loop
     μ-loop
     loop-holds
-    mul-wide
-    array-read-wide
-    wide-requires
-    cast-c
+    mul-home
+    shared-slice-read-home
+    home-requires
     add-c
     add-i
     loop-less
     loop-again
+    wide-requires
     returns)

@@ -1,7 +1,7 @@
 -- `permutation_record::list_record` meets its contract.
 -- Assumes nothing.
 use mathlib.Core.Path.{refl, _∙_}
-use Rattle.permutation_record.proofs.Records.{is-record-of}
+use Rattle.permutation_record.proofs.Records.{is-record-filled}
 use borrow.Author.Needs.{needs}
 use Rattle.permutation_record.proofs.list_record.Statement.{statement}
 use Rattle.permutation_record.proofs.list_record.Tie as tie
@@ -13,7 +13,7 @@ build-requires : tie.Need-build-requires
 build-requires c κs = search needs
 
 returns : tie.Need-returns
-returns c = c .build .ensures ∙ is-record-of _ _ refl (c .before .of-list .ensures)
+returns c = c .build .ensures ∙ is-record-filled _ _ refl (c .before .before .of-list .ensures)
 
 pub list-record-spec : {M : Type 1} → statement M
 list-record-spec = tie.close (tie.spec of-list-requires build-requires returns)

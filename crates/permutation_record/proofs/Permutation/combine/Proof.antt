@@ -1,8 +1,6 @@
 -- `permutation_record::Permutation::combine` meets its contract.
 -- Assumes nothing.
-use mathlib.Core.Path.{_≡_, _∙_}
-use lib.ListN.{length}
-use Rattle.permutation_record.proofs.Records.{sound}
+use mathlib.Core.Path.{_∙_}
 use Rattle.permutation_record.proofs.Replies.{first-stops, combine-second, passed-record, combine-unlike, combine-done}
 use borrow.Author.Needs.{needs}
 use Rattle.permutation_record.proofs.Permutation.combine.Statement.{statement}
@@ -43,10 +41,8 @@ accept-requires c κs = search needs
 
 combined-record-requires : tie.Need-combined-record-requires
 combined-record-requires c κs =
-    let p = c .before .before .before .before .before .before .before .before .before .before .args .self in
-    let s : length (p .entries) ≡ 1024 = search needs in
-    let S = sound p s (passed-record p (c .before .before .before .before .before .before .before .before .before .examine .ensures) (c .before .before .before .before .before .before .before .if1 .left)) in
-    (S .small, c .before .if3 .left, S .permutation)
+    let b7 = c .before .before .before .before .before .before .before in
+    (passed-record (b7 .before .before .before .args .self) (b7 .before .before .examine .ensures) (b7 .if1 .left), c .before .if3 .left)
 
 give-requires-4 : tie.Need-give-requires-4
 give-requires-4 c κs = search needs

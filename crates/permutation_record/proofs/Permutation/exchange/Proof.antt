@@ -45,7 +45,7 @@ exchanged-record-requires c κs =
     let p = c .before .before .before .before .before .before .before .args .self in
     let s : length (p .entries) ≡ 1024 = search needs in
     let w = passed-record p (c .before .before .before .before .before .before .examine .ensures) (c .before .before .before .before .if1 .left) in
-    (sound p s w .small, c .before .before .if2 .left, c .if3 .left, w)
+    (w, sound p s w .small, c .before .before .if2 .left, c .if3 .left)
 
 give-requires-4 : tie.Need-give-requires-4
 give-requires-4 c κs = search needs

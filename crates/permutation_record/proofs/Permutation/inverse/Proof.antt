@@ -1,9 +1,7 @@
 -- `permutation_record::Permutation::inverse` meets its contract.
 -- Assumes nothing.
-use mathlib.Core.Path.{_≡_, _∙_}
-use lib.ListN.{length}
+use mathlib.Core.Path.{_∙_}
 use mathlib.Core.List.{[]}
-use Rattle.permutation_record.proofs.Records.{sound}
 use Rattle.permutation_record.proofs.Replies.{first-stops, passed-record, accepted-record, replies-accepted}
 use borrow.Author.Needs.{needs}
 use Rattle.permutation_record.proofs.Permutation.inverse.Statement.{statement}
@@ -20,10 +18,7 @@ returns c = c .give .ensures ∙ first-stops _ _ _ [] (c .before .before .before
 
 inverted-record-requires : tie.Need-inverted-record-requires
 inverted-record-requires c κs =
-    let p = c .before .before .before .args .self in
-    let s : length (p .entries) ≡ 1024 = search needs in
-    let S = sound p s (passed-record p (c .before .before .examine .ensures) (c .if1 .left)) in
-    (S .small, S .permutation)
+    passed-record (c .before .before .before .args .self) (c .before .before .examine .ensures) (c .if1 .left)
 
 give-requires-2 : tie.Need-give-requires-2
 give-requires-2 c κs = search needs
