@@ -1,6 +1,7 @@
 /* Times the calls on permutations of a library, or of two by turns: in each round of a call it runs a batch in each of the four
  * objects of each library, and a round's time is their mean. A time is the median of the rounds, a ratio the median of each
- * round's own ratio. The second library is one whose records carry no number. See bench/permutations. */
+ * round's own ratio. The second library is one whose records carry no number. `once` runs one call ten times, for a counter of
+ * instructions. See bench/permutations. */
 #define _GNU_SOURCE
 #include "lomuveran.h"
 
@@ -12,7 +13,9 @@
 
 #define ROUNDS 61
 #define BATCH 300e3 /* nanoseconds */
+#ifndef OBJECTS
 #define OBJECTS 4
+#endif
 #define CALLS 5
 
 static const char *const names[CALLS] = {"fixed_points", "exchange", "inverse", "combine", "from_list"};
@@ -197,9 +200,23 @@ static void load(const char *from, void *to[OBJECTS][CALLS]) {
     }
 }
 
+/* once now|before OBJECTS CALL PLACES */
+static int once(char **argv) {
+    static struct work w;
+    int side = !strcmp(argv[2], "before"), c = 0, k;
+    while (c < CALLS && strcmp(names[c], argv[4])) c++;
+    check(c < CALLS, "which call?");
+    load(argv[3], loaded[side]);
+    fill(&w, strtoul(argv[5], NULL, 10));
+    w.f = loaded[side][0][c];
+    for (k = 0; k < 10; k++) calls[side][c](&w);
+    return 0;
+}
+
 int main(int argc, char **argv) {
     static const size_t sizes[3] = {16, 128, 1024};
     int c, k;
+    if (argc == 6) return once(argv);
     check(argc == 2 || argc == 3, "which objects?");
     for (k = 1; k < argc; k++) load(argv[k], loaded[k - 1]);
     printf("| call | places | ns |%s\n|---|---|---|%s\n", argc == 3 ? " before, ns | ratio |" : "", argc == 3 ? "---|---|" : "");
