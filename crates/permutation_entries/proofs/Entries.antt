@@ -1,38 +1,14 @@
--- The entries of a record: question 6 of them, and when they are those of a list.
+-- When the entries of a record are those of a list.
 -- Assumes nothing.
 use mathlib.Core.Path.{_≡_, sym, ap, _∙_}
 use mathlib.Core.List.{List, _++_}
 use Prim.Native.Nat.{ℕ, _+_, _-_, _≤_, _<_}
 use native.Mathlib.Omega.{arith}
-use lib.Dec.{eqb}
 use lib.ListN.{length, getD, take, drop, replicate, length-drop, length-replicate, getD-replicate, take-append-drop}
 use lib.Seq.{ext-getD, length-take-le, getD-take, getD-drop}
-use borrow.Author.Tests.{lt-ltb, le-ltb}
-use Rattle.answers.specs.Questions.{firstBad}
-use Rattle.permutation.specs.Permutations.{goodEntry, firstBadEntry}
-use Rattle.permutation.proofs.Sweeps.{same-bad}
-use Rattle.permutation.proofs.Permutations.{same-good}
-use Rattle.permutation_entries.specs.Entries.{padded, goodInRecord}
+use Rattle.permutation_entries.specs.Entries.{padded}
 
--- ---- question 6 of a record: first of its list, then past it
-
-module _ (n : ℕ) (es : List ℕ) where
-  pub good-in-list : (i : ℕ) → i < n → goodInRecord n es i ≡ goodEntry n es i
-  unfolding goodInRecord
-  good-in-list i l = rw (lt-ltb i n l)
-
-  pub good-past : (i : ℕ) → n ≤ i → goodInRecord n es i ≡ eqb (getD es i 0) 0
-  unfolding goodInRecord
-  good-past i l = rw (le-ltb i n l)
-
-  pub front-bad : n ≤ length es → firstBadEntry (take n es) ≡ firstBad (goodInRecord n es) n
-  front-bad h =
-      let e : length (take n es) ≡ n = length-take-le n es h in
-      ap (λ k. firstBad (goodEntry k (take n es)) k) e
-      ∙ same-bad (goodEntry n (take n es)) (goodInRecord n es) n
-      (λ i l. same-good n (take n es) es i (λ j m. getD-take n es j 0 (omega arith)) ∙ sym (good-in-list i l))
-
--- ---- entries with zeros past n are a list's
+-- entries with zeros past n are a list's
 
 pub is-padded : (n : ℕ) (e : List ℕ) → length e ≡ 1024 → n ≤ 1024 → ((v : ℕ) → n ≤ v → getD e v 0 ≡ 0) → e ≡ padded (take n e)
 is-padded n e s h z =

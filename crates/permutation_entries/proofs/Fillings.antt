@@ -1,4 +1,4 @@
--- Loops that fill the entries of a record, and that count those that stay home.
+-- Loops that fill the entries of a record.
 -- Assumes nothing.
 use mathlib.Core.Path.{_≡_, sym, ap, _∙_}
 use mathlib.Core.Logic.{_≢_}
@@ -6,14 +6,13 @@ use mathlib.Core.List.{List}
 use Prim.Native.Nat.{ℕ, _+_, _≤_, _<_}
 use native.Mathlib.Omega.{arith}
 use native.Mathlib.Decide.{ℕ-discrete}
-use lib.Dec.{eqb}
 use lib.ListN.{length, getD, set, take, replicate, length-replicate, length-set}
 use lib.Seq.{getD-set-same, getD-set-other, getD-take, length-take-le}
-use Rattle.permutation.specs.Permutations.{IsPermutation, bit, howMany, combined, inverted, placeOf, fixedPoints}
-use Rattle.permutation.proofs.Sweeps.{bit-small, none-counted, one-counted, same-count}
+use Rattle.permutation.specs.Permutations.{IsPermutation, combined, inverted, placeOf}
 use Rattle.permutation.proofs.Tables.{getD-blank}
 use Rattle.permutation.proofs.Laws.{combined-length, combined-at}
 use Rattle.permutation.proofs.Inverses.{place-below, place-holds, inverted-at, inverted-permutation}
+use Rattle.permutation_questions.proofs.Counting.{Counting, counted}
 use Rattle.permutation_entries.specs.Entries.{padded}
 use Rattle.permutation_entries.specs.Fillings.{countedOf}
 use Rattle.permutation_entries.specs.declared.Counted.{Counted}
@@ -65,36 +64,11 @@ pub filled : (f : ℕ → ℕ) (n : ℕ) (es : List ℕ) {e : List ℕ} {i : ℕ
 filled f n es {e} h l k t F =
     is-padded-of n e es (F .same) h k (λ v m. F .done v (omega (arith, F .within)) ∙ sym (t v m)) (F .past)
 
--- ---- loops that count the entries that stay home
-
--- c of f 0, .., f (i - 1) stay home
-pub record Counting (f : ℕ → ℕ) (c i : ℕ) : Type 0 where
-  pub few : c ≤ i
-  pub found : c ≡ howMany (λ j. eqb (f j) j) i
-
-module _ (f : ℕ → ℕ) where
-  pub counting-starts : Counting f 0 0
-  counting-starts = record { few = omega arith; found = none-counted (λ j. eqb (f j) j) }
-
-  pub counting-more : {c i x h : ℕ} → x ≡ f i → h ≡ bit (eqb x i) → Counting f c i → Counting f (c + h) (i + 1)
-  counting-more {c} {i} {x} t e C =
-      record {
-        few = omega (arith, C .few, e, bit-small (eqb x i));
-        found = ap (λ k. c + k) (e ∙ ap (λ y. bit (eqb y i)) t) ∙ one-counted (λ j. eqb (f j) j) i (C .found);
-      }
-
-  pub counted : (n : ℕ) (es : List ℕ) {c i : ℕ} → i ≡ n → length es ≡ n → ((v : ℕ) → v < n → getD es v 0 ≡ f v)
-      → Counting f c i → c ≡ fixedPoints es
-  counted n es {c} {i} l k t C =
-      C .found
-      ∙ ap (howMany (λ j. eqb (f j) j)) (l ∙ sym k)
-      ∙ same-count (λ j. eqb (f j) j) (λ j. eqb (getD es j 0) j) (length es) (λ v m. ap (λ y. eqb y v) (sym (t v (omega arith))))
-
-  -- entries written in their sequence and counted
-  pub filled-counted : (n : ℕ) (es : List ℕ) {e : List ℕ} {c i fixed : ℕ} → n ≤ 1024 → n ≤ i → length es ≡ n
-      → ((v : ℕ) → v < n → getD es v 0 ≡ f v)
-      → Filling (λ j. j) f n e i → Counting f c i → fixed ≡ c → _≡_ {A = Counted} (record { entries = e; fixed = fixed }) (countedOf es)
-  filled-counted n es h l k t F C w = rw (filled f n es h l k t F, w ∙ counted n es (omega (arith, F .within)) k t C)
+-- entries written in their sequence and counted
+pub filled-counted : (f : ℕ → ℕ) (n : ℕ) (es : List ℕ) {e : List ℕ} {c i fixed : ℕ} → n ≤ 1024 → n ≤ i → length es ≡ n
+    → ((v : ℕ) → v < n → getD es v 0 ≡ f v)
+    → Filling (λ j. j) f n e i → Counting f c i → fixed ≡ c → _≡_ {A = Counted} (record { entries = e; fixed = fixed }) (countedOf es)
+filled-counted f n es h l k t F C w = rw (filled f n es h l k t F, w ∙ counted f n es (omega (arith, F .within)) k t C)
 
 -- each place written where its entry says
 pub filled-back : (n : ℕ) (es : List ℕ) {e : List ℕ} {i : ℕ} → IsPermutation n es → n ≤ 1024 → n ≤ i

@@ -1,14 +1,12 @@
-// The 1,024 entries of a permutation record, those past its length 0: question 6 of them, the lists that they come to hold,
-// and how many entries of a list stay home. The calls on records keep no log, and 01 asks only of calls that do that no index
-// depends on an entry: `combine` and `invert` index by one. The questions are the record's calls' (crate permutation_record):
-// what is asked here, they ensure.
+// The 1,024 entries of a permutation record, those past its length 0: the lists that they come to hold, and how many of them
+// stay home. The calls on records keep no log, and 01 asks only of calls that do that no index depends on an entry: `combine`
+// and `invert` index by one. What is required here, the questions of the record's calls ensure (crate permutation_record).
 ghost use mathlib.Core.Path.{_≡_};
 ghost use Prim.Native.Nat.{_+_, _≤_, _<_};
 ghost use lib.Dec.{eqb};
 ghost use lib.ListN.{length, take};
-ghost use Rattle.answers.specs.Questions.{firstBad};
-ghost use Rattle.permutation.specs.Permutations.{IsPermutation, bit, identity, exchanged, combined, inverted, fixedPoints};
-ghost use Rattle.permutation_entries.specs.Entries.{goodInRecord, padded};
+ghost use Rattle.permutation.specs.Permutations.{IsPermutation, bit, identity, exchanged, combined, inverted};
+ghost use Rattle.permutation_entries.specs.Entries.{padded};
 ghost use Rattle.permutation_entries.specs.Fillings.{countedOf};
 
 // Entries that a loop filled, with how many of them stay home.
@@ -21,28 +19,6 @@ fn wide(x: u16) -> usize
     ensures { λ r. ⌜ r ≡ x ⌝ }
 {
     x as usize
-}
-
-// 1 where the entry x at place i stays home, in 16 bits so that a loop takes several entries at a time.
-fn home(x: u16, i: usize) -> u16
-    requires { ⌜ i < 1024 ⌝ }
-    ensures { λ r. ⌜ (r ≡ bit (eqb x i)) × (r ≤ 1) ⌝ }
-{
-    (x == i as u16) as u16
-}
-
-// Question 6 of a record's entries: its list, and past that nothing but 0. 1,024 where nothing is bad.
-pub fn first_bad(n: usize, e: &[u16]) -> usize
-    requires { ⌜ (n ≤ 1024) × (length (now e) ≡ 1024) ⌝ }
-    ensures { λ r. ⌜ r ≡ firstBad (goodInRecord n (now (e .entry))) 1024 ⌝ }
-{
-    let mut low = permutation::first_bad_entry(&e[..n]);
-    let mut i = n;
-    while i < 1024 {
-        low = permutation::sweep(low, i, e[i] == 0);
-        i += 1;
-    }
-    low
 }
 
 // 0 .. n - 1.
@@ -70,7 +46,7 @@ pub fn of_list(list: &[u16]) -> Counted
     while i < n {
         let x = list[i];
         e[i] = x;
-        fixed += home(x, i);
+        fixed += permutation_questions::home(x, i);
         i += 1;
     }
     Counted {
@@ -97,8 +73,8 @@ pub fn fixed_exchanged(fixed: usize, i: usize, x: u16, j: usize, y: u16) -> usiz
         × (bit (eqb x i) + bit (eqb y j) ≤ fixed + (bit (eqb y i) + bit (eqb x j))) ⌝ }
     ensures { λ r. ⌜ r + (bit (eqb x i) + bit (eqb y j)) ≡ fixed + (bit (eqb y i) + bit (eqb x j)) ⌝ }
 {
-    let come = home(y, i) + home(x, j);
-    let gone = home(x, i) + home(y, j);
+    let come = permutation_questions::home(y, i) + permutation_questions::home(x, j);
+    let gone = permutation_questions::home(x, i) + permutation_questions::home(y, j);
     fixed + wide(come) - wide(gone)
 }
 
@@ -114,7 +90,7 @@ pub fn combine(n: usize, first: [u16; 1024], second: [u16; 1024]) -> Counted
         let k = wide(first[i]);
         let x = second[k];
         e[i] = x;
-        fixed += home(x, i);
+        fixed += permutation_questions::home(x, i);
         i += 1;
     }
     Counted {
@@ -135,19 +111,4 @@ pub fn invert(n: usize, f: [u16; 1024]) -> [u16; 1024]
         i += 1;
     }
     back
-}
-
-// How many entries stay home.
-pub fn fixed_points(list: &[u16]) -> usize
-    requires { ⌜ length (now list) ≤ 1024 ⌝ }
-    ensures { λ r. ⌜ r ≡ fixedPoints (now (list .entry)) ⌝ }
-{
-    let n = list.len();
-    let mut c = 0u16;
-    let mut i = 0;
-    while i < n {
-        c += home(list[i], i);
-        i += 1;
-    }
-    wide(c)
 }

@@ -18,8 +18,9 @@ use Rattle.permutation_record.specs.Records.{recordOf, listOf, questions
 use Rattle.permutation_record.specs.declared.Permutation.{Permutation}
 use Rattle.permutation.proofs.Permutations.{good-when, same-good, permutation-passes}
 use Rattle.permutation.proofs.Tables.{getD-blank}
-use Rattle.permutation_entries.specs.Entries.{padded, goodInRecord}
-use Rattle.permutation_entries.proofs.Entries.{good-in-list, good-past}
+use Rattle.permutation_questions.specs.Questions.{goodInRecord}
+use Rattle.permutation_questions.proofs.Questions.{good-in-list, good-past}
+use Rattle.permutation_entries.specs.Entries.{padded}
 use Rattle.permutation_record.proofs.Records.{sound}
 use Rattle.permutation_record.proofs.Replies.{reply, replies-accepted, identity-done, list-done, exchange-done, combine-done, asking-given, asking-back}
 

@@ -18,10 +18,12 @@ use Rattle.permutation.proofs.Sweeps.{counted-within}
 use Rattle.permutation.proofs.Inverses.{inverted-permutation}
 use Rattle.permutation.proofs.Laws.{combined-length}
 use Rattle.permutation.proofs.Counts.{exchanged-fixed, inverted-fixed}
-use Rattle.permutation_entries.specs.Entries.{padded, goodInRecord}
+use Rattle.permutation_questions.specs.Questions.{goodInRecord}
+use Rattle.permutation_questions.proofs.Questions.{good-past, front-bad}
+use Rattle.permutation_entries.specs.Entries.{padded}
 use Rattle.permutation_entries.specs.Fillings.{countedOf}
 use Rattle.permutation_entries.specs.declared.Counted.{Counted}
-use Rattle.permutation_entries.proofs.Entries.{good-past, front-bad, is-padded}
+use Rattle.permutation_entries.proofs.Entries.{is-padded}
 use Rattle.permutation_record.specs.Records.{recordOf, listOf, WellFormed}
 use Rattle.permutation_record.specs.declared.Permutation.{Permutation}
 

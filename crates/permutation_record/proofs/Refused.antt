@@ -11,7 +11,7 @@ use Rattle.answers.specs.Answers.{refusal}
 use Rattle.answers.specs.Questions.{Question, ask, askEach, firstBad, noAt, firstNo}
 use Rattle.answers.proofs.Questions.{asked-yes, asked-no, asked-first, asked-both, passed}
 use Rattle.permutation.specs.Permutations.{exchanged, combined, inverted, fixedPoints}
-use Rattle.permutation_entries.specs.Entries.{goodInRecord}
+use Rattle.permutation_questions.specs.Questions.{goodInRecord}
 use Rattle.permutation_record.specs.Records.{recordOf, listOf, questionsOf, WellFormed, exchangeAsks, combineAsks, exchangeCall, combineCall, inverseCall}
 use Rattle.permutation_record.specs.declared.Permutation.{Permutation}
 use Rattle.permutation_record.proofs.Replies.{reply, replies-refused}

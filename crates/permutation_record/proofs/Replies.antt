@@ -11,12 +11,11 @@ use lib.ListN.{length}
 use borrow.Author.Tests.{le-leb, lt-leb, le-ltb, lt-ltb, eq-eqb, ne-eqb}
 use Rattle.answers.specs.declared.Answer.{Answer}
 use Rattle.answers.specs.Answers.{refusal, accepted}
-use Rattle.answers.specs.Questions.{Question, ask, askEach, firstBad, Verdict, allYes, noAt, firstNo}
+use Rattle.answers.specs.Questions.{Question, ask, askEach, Verdict, allYes, noAt, firstNo}
 use Rattle.answers.specs.Outcomes.{answerOf}
 use Rattle.answers.proofs.Outcomes.{Numbered, accepted-when}
 use Rattle.answers.proofs.Questions.{asked-yes, asked-no, asked-both, asked-first, bad-within}
-use Rattle.permutation.specs.Permutations.{goodEntry, firstBadEntry, tabulate, identity, exchanged, combined, fixedPoints}
-use Rattle.permutation_entries.specs.Entries.{goodInRecord}
+use Rattle.permutation.specs.Permutations.{goodEntry, firstBadEntry, tabulate, identity, exchanged, combined}
 use Rattle.permutation_record.specs.Records.{recordOf, listOf, questionsOf, WellFormed, exchangeAsks, combineAsks, recordAfter, replied, identityCall, fromListCall, exchangeCall, combineCall, lengthAsks, fixedPointsCall}
 use Rattle.permutation_record.specs.declared.Permutation.{Permutation}
 use Rattle.permutation_record.specs.declared.Reply.{Reply}
@@ -54,26 +53,6 @@ passed-record p e n = accepted-when (questionsOf p) 0 (record-numbered p) (sym (
 
 pub accepted-record : (p : Permutation) {a : Answer} → a ≡ answerOf (firstNo (questionsOf p)) 0 → WellFormed p → a ≡ accepted 0
 accepted-record p e w = e ∙ ap (λ v. answerOf v 0) w
-
--- ---- questions 1 and 6 of one record
-
-module _ (p : Permutation) where
-  pub examined-large : 1024 < p .length → refusal 1 0 ≡ answerOf (firstNo (questionsOf p)) 0
-  examined-large l = rw (lt-leb _ _ l)
-
-  module _ (small : p .length ≤ 1024) {low : ℕ} (e : low ≡ firstBad (goodInRecord (p .length) (p .entries)) 1024) where
-    pub examined-bad : low < 1024 → refusal 6 low ≡ answerOf (firstNo (questionsOf p)) 0
-    examined-bad l = rw (le-leb _ _ small, ← e, ne-eqb low 1024 (λ q. omega arith))
-
-    module _ (l : 1024 ≤ low) {home : ℕ} (h : home ≡ fixedPoints (listOf p)) where
-      all-passed : firstBad (goodInRecord (p .length) (p .entries)) 1024 ≡ 1024
-      all-passed = omega (arith, bad-within (goodInRecord (p .length) (p .entries)) 1024)
-
-      pub examined-number : p .fixed ≢ home → refusal 6 1024 ≡ answerOf (firstNo (questionsOf p)) 0
-      examined-number n = rw (le-leb _ _ small, eq-eqb _ _ all-passed, ← h, ne-eqb _ _ n)
-
-      pub examined-good : p .fixed ≡ home → accepted 0 ≡ answerOf (firstNo (questionsOf p)) 0
-      examined-good n = rw (le-leb _ _ small, eq-eqb _ _ all-passed, ← h, eq-eqb _ _ n)
 
 -- ---- the asking, which looks at the length and the number alone
 

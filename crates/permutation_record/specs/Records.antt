@@ -9,7 +9,8 @@ use lib.ListN.{length, take}
 use Rattle.answers.specs.Questions.{Question, ask, askEach, Verdict, allYes, noAt, firstNo}
 use Rattle.answers.specs.Outcomes.{answerOf}
 use Rattle.permutation.specs.Permutations.{goodEntry, identity, exchanged, combined, inverted, fixedPoints}
-use Rattle.permutation_entries.specs.Entries.{padded, goodInRecord}
+use Rattle.permutation_questions.specs.Questions.{recordAsks}
+use Rattle.permutation_entries.specs.Entries.{padded}
 use Rattle.permutation_record.specs.declared.Permutation.{Permutation}
 use Rattle.permutation_record.specs.declared.Reply.{Reply}
 
@@ -29,13 +30,9 @@ listOf p = take (p .length) (p .entries)
 abbrev pub lengthAsks : ℕ → List Question
 lengthAsks n = ask 1 0 (leb n 1024) ∷ []
 
--- 1 and 6 of a record handed in; a wrong number is bad at place 1,024, after all entries have passed
+-- 1 and 6 of a record handed in, its number included
 abbrev pub questionsOf : Permutation → List Question
-questionsOf p =
-    ask 1 0 (leb (p .length) 1024)
-    ∷ askEach 6 (goodInRecord (p .length) (p .entries)) 1024
-    ∷ ask 6 1024 (eqb (p .fixed) (fixedPoints (listOf p)))
-    ∷ []
+questionsOf p = recordAsks (p .length) (p .entries) (p .fixed)
 
 -- a record that passes them
 abbrev pub WellFormed : Permutation → Type 0

@@ -45,20 +45,8 @@ fn give(answer: answers::Answer, permutation: Permutation) -> Reply
 fn examine(p: Permutation) -> answers::Answer
     ensures { λ r. ⌜ r ≡ answerOf (firstNo (questionsOf p)) 0 ⌝ }
 {
-    if 1024 < p.length {
-        return answers::refuse(1, 0);
-    }
-    let n = p.length;
     let e = p.entries;
-    let low = permutation_entries::first_bad(n, &e);
-    if low < 1024 {
-        return answers::refuse(6, low);
-    }
-    let home = permutation_entries::fixed_points(&e[..n]);
-    if p.fixed != home {
-        return answers::refuse(6, 1024);
-    }
-    answers::accept(0)
+    permutation_questions::examine(p.length, &e, p.fixed)
 }
 
 // What the asking answers: it follows from the length and the number alone. Public only for the call for C, which need not

@@ -7,7 +7,8 @@ use native.Mathlib.Omega.{arith}
 use lib.ListN.{length, getD, take}
 use lib.Seq.{getD-take}
 use Rattle.permutation.specs.Permutations.{IsPermutation}
-use Rattle.permutation_entries.proofs.Fillings.{Filling, filling-starts, filling-more, Counting, counting-starts, counting-more, combined-read, combined-filled}
+use Rattle.permutation_questions.proofs.Counting.{Counting, counting-starts, counting-more}
+use Rattle.permutation_entries.proofs.Fillings.{Filling, filling-starts, filling-more, combined-read, combined-filled}
 use Rattle.permutation_entries.proofs.combine.Statement.{statement}
 use Rattle.permutation_entries.proofs.combine.Tie as tie
 

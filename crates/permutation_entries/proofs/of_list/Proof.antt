@@ -5,7 +5,8 @@ use mathlib.Core.Path.{refl}
 use Prim.Native.Nat.{_-_}
 use native.Mathlib.Omega.{arith}
 use lib.ListN.{getD}
-use Rattle.permutation_entries.proofs.Fillings.{Filling, filling-starts, filling-more, Counting, counting-starts, counting-more, filled-counted}
+use Rattle.permutation_questions.proofs.Counting.{Counting, counting-starts, counting-more}
+use Rattle.permutation_entries.proofs.Fillings.{Filling, filling-starts, filling-more, filled-counted}
 use Rattle.permutation_entries.proofs.of_list.Statement.{statement}
 use Rattle.permutation_entries.proofs.of_list.Tie as tie
 

@@ -1,13 +1,13 @@
--- `permutation_entries::fixed_points` meets its contract.
+-- `permutation_questions::fixed_points` meets its contract.
 -- Assumes nothing.
 use borrow.Author.Needs.{needs}
 use mathlib.Core.Path.{refl, _∙_}
 use Prim.Native.Nat.{_-_, _≤_}
 use native.Mathlib.Omega.{arith}
 use lib.ListN.{getD}
-use Rattle.permutation_entries.proofs.Fillings.{Counting, counting-starts, counting-more, counted}
-use Rattle.permutation_entries.proofs.fixed_points.Statement.{statement}
-use Rattle.permutation_entries.proofs.fixed_points.Tie as tie
+use Rattle.permutation_questions.proofs.Counting.{Counting, counting-starts, counting-more, counted}
+use Rattle.permutation_questions.proofs.fixed_points.Statement.{statement}
+use Rattle.permutation_questions.proofs.fixed_points.Tie as tie
 
 abbrev Inv-loop : tie.InvT-loop
 Inv-loop list n c₀ i₀ c i = (i ≤ n) × Counting (λ j. getD list j 0) c i

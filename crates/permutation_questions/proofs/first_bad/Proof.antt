@@ -1,15 +1,15 @@
--- `permutation_entries::first_bad` meets its contract.
+-- `permutation_questions::first_bad` meets its contract.
 -- Assumes nothing.
 use mathlib.Core.Path.{sym, _∙_}
 use Prim.Native.Nat.{_-_, _≤_}
 use native.Mathlib.Omega.{arith}
 use lib.Seq.{length-take-le}
 use Rattle.permutation.proofs.Sweeps.{Sweeping, sweeping-from, sweeping-more, sweeping-ends}
-use Rattle.permutation_entries.specs.Entries.{goodInRecord}
-use Rattle.permutation_entries.proofs.Entries.{good-past, front-bad}
+use Rattle.permutation_questions.specs.Questions.{goodInRecord}
+use Rattle.permutation_questions.proofs.Questions.{good-past, front-bad}
 use borrow.Author.Needs.{needs}
-use Rattle.permutation_entries.proofs.first_bad.Statement.{statement}
-use Rattle.permutation_entries.proofs.first_bad.Tie as tie
+use Rattle.permutation_questions.proofs.first_bad.Statement.{statement}
+use Rattle.permutation_questions.proofs.first_bad.Tie as tie
 
 abbrev Inv-loop : tie.InvT-loop
 Inv-loop n e low₀ i₀ low i = (n ≤ i) × Sweeping (goodInRecord n e) 1024 low i

@@ -1,11 +1,11 @@
--- `permutation_entries::home` meets its contract.
+-- `permutation_questions::home` meets its contract.
 -- Assumes nothing.
 use mathlib.Core.Path.{refl}
 use lib.Dec.{eqb}
 use Rattle.permutation.proofs.Sweeps.{bit-small}
 use borrow.Author.Needs.{needs}
-use Rattle.permutation_entries.proofs.home.Statement.{statement}
-use Rattle.permutation_entries.proofs.home.Tie as tie
+use Rattle.permutation_questions.proofs.home.Statement.{statement}
+use Rattle.permutation_questions.proofs.home.Tie as tie
 
 cast-result : tie.Need-cast-result
 cast-result c = search needs
