@@ -6,13 +6,11 @@ use permutation_record::Reply;
 use tally::Tally;
 ghost use Prim.Native.Nat.{_≤_};
 
-// One call of a chain: its kind (0 to 3 exchange, 4 inverse, 5 the asking, 6 and 7 combine with the record first or second), two
-// places, and an order.
-struct Step {
-    kind: u32,
-    i: usize,
-    j: usize,
-    order: [u16; 1024],
+// Where a chain stands: what was compared, the list, and the record that the last call gave.
+struct State {
+    tally: Tally,
+    list: [u16; 1024],
+    made: Permutation,
 }
 
 // ---- what is drawn
@@ -32,7 +30,7 @@ fn partner(list: &[u16; 1024], n: usize, i: usize, x: u32) -> usize {
 }
 
 // A drawn order; or the list's inverse with two places exchanged, by which nearly all entries come home.
-fn order(list: &[u16; 1024], n: usize, i: usize, x: u32) -> [u16; 1024]
+fn order(list: &[u16; 1024], n: usize, x: u32) -> [u16; 1024]
     requires { ⌜ n ≤ 1024 ⌝ }
 {
     if x % 2 == 0 {
@@ -40,30 +38,56 @@ fn order(list: &[u16; 1024], n: usize, i: usize, x: u32) -> [u16; 1024]
         let drawn = plain::shuffle(&words, n);
         return plain::front(&drawn, n);
     }
-    plain::exchange(plain::inverse(list, n), i, place(tally::next(x), n))
+    plain::exchange(
+        plain::inverse(list, n),
+        place(x, n),
+        place(tally::next(x), n),
+    )
 }
 
-fn drawn(list: &[u16; 1024], n: usize, kind: u32, x: u32) -> Step
+// ---- a call, and the same on the list
+
+// After a call with this reply, and the list changed to e.
+fn after(c: State, r: Reply, number: usize, e: [u16; 1024], n: usize) -> State {
+    let t = c.tally;
+    let made = r.permutation;
+    State {
+        tally: plain::compare(t, r, number, 0, plain::record(e, n)),
+        list: e,
+        made,
+    }
+}
+
+// Accepted; but a record of no places has none to exchange.
+fn exchanged(c: State, n: usize, x: u32) -> State {
+    let e = c.list;
+    let p = c.made;
+    let i = place(x, n);
+    let j = partner(&e, n, i, x);
+    let number = if n == 0 { 14 } else { 0 };
+    after(c, p.exchange(i, j), number, plain::exchange(e, i, j), n)
+}
+
+fn inverted(c: State, n: usize) -> State
     requires { ⌜ n ≤ 1024 ⌝ }
 {
-    let i = place(x, n);
-    if kind < 6 {
-        return Step {
-            kind,
-            i,
-            j: partner(list, n, i, x),
-            order: [0u16; 1024],
-        };
-    }
-    Step {
-        kind,
-        i,
-        j: 0,
-        order: order(list, n, i, x),
-    }
+    let e = c.list;
+    let p = c.made;
+    after(c, p.inverse(), 0, plain::inverse(&e, n), n)
 }
 
-// ---- the call, and the same on the list
+fn asked(c: State, n: usize) -> State {
+    let e = c.list;
+    let p = c.made;
+    let t = c.tally;
+    let r = p.fixed_points();
+    let made = r.permutation;
+    State {
+        tally: plain::asked(t, r, plain::record(e, n)),
+        list: e,
+        made,
+    }
+}
 
 fn listed(e: [u16; 1024], n: usize) -> Permutation
     requires { ⌜ n ≤ 1024 ⌝ }
@@ -72,78 +96,62 @@ fn listed(e: [u16; 1024], n: usize) -> Permutation
     r.permutation
 }
 
-fn called(p: Permutation, s: Step, n: usize) -> Reply
+// Combined with the record of a drawn order, as the first or as the second.
+fn combined(c: State, n: usize, x: u32, first: bool) -> State
     requires { ⌜ n ≤ 1024 ⌝ }
 {
-    if s.kind < 4 {
-        return p.exchange(s.i, s.j);
+    let e = c.list;
+    let p = c.made;
+    let o = order(&e, n, x);
+    let q = listed(o, n);
+    if first {
+        return after(c, p.combine(q), 0, plain::combine(&e, &o, n), n);
     }
-    if s.kind == 4 {
-        return p.inverse();
-    }
-    if s.kind == 5 {
-        return p.fixed_points();
-    }
-    let order = s.order;
-    let q = listed(order, n);
-    if s.kind == 6 {
-        return p.combine(q);
-    }
-    q.combine(p)
+    after(c, q.combine(p), 0, plain::combine(&o, &e, n), n)
 }
 
-fn changed(list: [u16; 1024], s: Step, n: usize) -> [u16; 1024]
+// Half of the calls exchange.
+fn called(c: State, n: usize, kind: u32, x: u32) -> State
     requires { ⌜ n ≤ 1024 ⌝ }
 {
-    if s.kind < 4 {
-        return plain::exchange(list, s.i, s.j);
+    if kind < 4 {
+        return exchanged(c, n, x);
     }
-    if s.kind == 4 {
-        return plain::inverse(&list, n);
+    if kind == 4 {
+        return inverted(c, n);
     }
-    if s.kind == 5 {
-        return list;
-    }
-    let order = s.order;
-    if s.kind == 6 {
-        return plain::combine(&list, &order, n);
-    }
-    plain::combine(&order, &list, n)
-}
-
-// A drawn call is one to accept, but a record of no places has none to exchange.
-fn number(kind: u32, n: usize) -> usize {
-    if n == 0 && kind < 4 { 14 } else { 0 }
-}
-
-fn compared(t: Tally, r: Reply, kind: u32, right: Permutation) -> Tally {
     if kind == 5 {
-        return plain::asked(t, r, right);
+        return asked(c, n);
     }
-    plain::compare(t, r, number(kind, right.length), 0, right)
+    combined(c, n, x, kind == 6)
 }
 
 // ---- the chains
 
+fn starts(before: Tally, n: usize) -> State
+    requires { ⌜ n ≤ 1024 ⌝ }
+{
+    let r = Permutation::identity(n);
+    let made = r.permutation;
+    State {
+        tally: before,
+        list: plain::identity(n),
+        made,
+    }
+}
+
 fn chain(before: Tally, n: usize, seed: u32) -> Tally
     requires { ⌜ n ≤ 1024 ⌝ }
 {
-    let mut t = before;
-    let mut list = plain::identity(n);
-    let fresh = Permutation::identity(n);
-    let mut p = fresh.permutation;
+    let mut c = starts(before, n);
     let mut x = seed;
     let mut k: usize = 0;
     while k < 50 {
         x = tally::next(tally::next(x));
-        let s = drawn(&list, n, x % 8, tally::next(x));
-        let r = called(p, s, n);
-        list = changed(list, s, n);
-        t = compared(t, r, s.kind, plain::record(list, n));
-        p = r.permutation;
+        c = called(c, n, x % 8, tally::next(x));
         k += 1;
     }
-    t
+    c.tally
 }
 
 const LENGTHS: [usize; 8] = [0, 1, 2, 5, 6, 100, 1023, 1024];

@@ -34,7 +34,7 @@ fn check_list(t: Tally, e: [u16; 1024], n: usize) -> Tally
     plain::accepted(t, r, n, e)
 }
 
-// Every permutation among those lists: the other calls.
+// Every permutation among those lists: the other calls, with its true number and with false ones.
 fn check_permutations(before: Tally, n: usize, total: usize) -> Tally
     requires { ⌜ (n ≤ 1024) × (total ≤ 65536) ⌝ }
 {
@@ -43,11 +43,18 @@ fn check_permutations(before: Tally, n: usize, total: usize) -> Tally
     while c < total {
         let e = plain::digits(c, n);
         if plain::first_bad(&e, n) == n {
-            t = check_exchanges(check_calls(t, e, plain::rotation(n), n), e, n);
+            t = check_permutation(t, e, n);
         }
         c += 1;
     }
     t
+}
+
+fn check_permutation(t: Tally, e: [u16; 1024], n: usize) -> Tally
+    requires { ⌜ n ≤ 1024 ⌝ }
+{
+    let t1 = check_calls(t, e, plain::rotation(n), n);
+    numbers::of_permutation(check_exchanges(t1, e, n), e, n)
 }
 
 // One permutation, alone and before a second one.
@@ -109,10 +116,7 @@ fn check_row(before: Tally, e: [u16; 1024], n: usize, i: usize) -> Tally
 fn check_exchange(t: Tally, e: [u16; 1024], n: usize, i: usize, j: usize) -> Tally {
     let p = plain::record(e, n);
     let r = p.exchange(i, j);
-    if n <= i {
-        return plain::compare(t, r, 14, 0, p);
-    }
-    if n <= j {
+    if (n <= i) | (n <= j) {
         return plain::compare(t, r, 14, 0, p);
     }
     plain::accepted(t, r, n, plain::exchange(e, i, j))
@@ -179,10 +183,10 @@ fn small_permutations(t: Tally) -> Tally {
     check_permutations(t5, 6, 46656)
 }
 
-fn print_calls() {
+fn print_small() {
     tally::print(b"lists of up to 6 entries", small_lists(tally::none()));
     tally::print(
-        b"calls on permutations of up to 6 places",
+        b"calls on permutations of up to 6 places, true and false numbers",
         small_permutations(tally::none()),
     );
 }
@@ -198,28 +202,16 @@ fn print_drawn() {
     );
 }
 
-fn print_numbers() {
+fn print_chosen() {
     tally::print(
-        b"how many stay home, true and false, up to 6 places",
-        numbers::small(tally::none()),
-    );
-    tally::print(
-        b"how many stay home, true and false, 1024 places",
-        numbers::large(tally::none()),
-    );
-}
-
-fn print_refusals() {
-    tally::print(
-        b"asking how many stay home of ill-formed records",
-        numbers::askings(tally::none()),
+        b"numbers of 1024 places and of ill-formed records",
+        numbers::all(tally::none()),
     );
     tally::print(b"refusals", refusals::all(tally::none()));
 }
 
 fn main() {
-    print_calls();
+    print_small();
     print_drawn();
-    print_numbers();
-    print_refusals();
+    print_chosen();
 }

@@ -1,7 +1,6 @@
 // The number that a record carries, of entries that stay home: true and false ones, under every call that takes a record.
 use crate::check_calls;
 use crate::check_exchange;
-use crate::check_pair;
 use crate::plain;
 use crate::refusals;
 use permutation_record::Permutation;
@@ -10,78 +9,46 @@ ghost use Prim.Native.Nat.{_≤_};
 
 const LAST: usize = 18446744073709551615;
 
-// Entries with their true number: the calls do their work.
-fn of_true(t: Tally, e: [u16; 1024], n: usize) -> Tally
-    requires { ⌜ n ≤ 1024 ⌝ }
-{
-    let s = plain::rotation(n);
-    let t1 = check_calls(t, e, s, n);
-    let t2 = check_pair(t1, s, e, n);
-    check_exchange(t2, e, n, 0, 1)
-}
-
-// One permutation with this number: a false one is told where it is asked for, and else refused as bad at place 1,024.
-fn of_number(t: Tally, e: [u16; 1024], n: usize, number: usize) -> Tally
-    requires { ⌜ n ≤ 1024 ⌝ }
-{
-    if number == plain::fixed(&e, n) {
-        return of_true(t, e, n);
-    }
+// One permutation with a false number: it is told where it is asked for, and else refused as bad at place 1,024.
+fn of_false(t: Tally, e: [u16; 1024], n: usize, number: usize) -> Tally {
     let p = plain::numbered(e, n, number);
     refusals::of_record(told(t, p), p, 6, 1024)
 }
 
-// One permutation with each number from 0 to n + 1.
-fn of_permutation(before: Tally, e: [u16; 1024], n: usize) -> Tally
+// One permutation with each false number from 0 to n + 1.
+pub(crate) fn of_permutation(before: Tally, e: [u16; 1024], n: usize) -> Tally
     requires { ⌜ n ≤ 1024 ⌝ }
 {
+    let right = plain::fixed(&e, n);
     let mut t = before;
     let mut number = 0;
     while number < n + 2 {
-        t = of_number(t, e, n, number);
+        if number != right {
+            t = of_false(t, e, n, number);
+        }
         number += 1;
     }
     t
 }
 
-// Every permutation of n places among the lists of entries from 0 to 5, one for each number below `total`.
-fn of_length(before: Tally, n: usize, total: usize) -> Tally
-    requires { ⌜ (n ≤ 1024) × (total ≤ 65536) ⌝ }
-{
-    let mut t = before;
-    let mut c = 0;
-    while c < total {
-        let e = plain::digits(c, n);
-        if plain::first_bad(&e, n) == n {
-            t = of_permutation(t, e, n);
-        }
-        c += 1;
-    }
-    t
-}
-
-// All of up to 5 places; of 6 places those that end in 0, and the one that moves nothing.
-pub(crate) fn small(t: Tally) -> Tally {
-    let t0 = of_length(t, 0, 1);
-    let t1 = of_length(t0, 1, 6);
-    let t2 = of_length(t1, 2, 36);
-    let t3 = of_length(t2, 3, 216);
-    let t4 = of_length(t3, 4, 1296);
-    let t5 = of_length(t4, 5, 7776);
-    of_permutation(of_length(t5, 6, 7776), plain::identity(6), 6)
-}
-
-// The true number, its neighbours, and two that differ from it only above 16 and above 32 bits.
+// 1,024 places: the calls do their work with the true number. False are its neighbours, and two that differ from it only above
+// 16 and above 32 bits.
 fn of_large(t: Tally, e: [u16; 1024]) -> Tally {
     let f = plain::fixed(&e, 1024);
-    let t1 = of_number(t, e, 1024, f);
-    let t2 = of_number(t1, e, 1024, tally::add(f, 1));
-    let t3 = of_number(t2, e, 1024, tally::add(f, LAST));
-    let t4 = of_number(t3, e, 1024, tally::add(f, 65536));
-    of_number(t4, e, 1024, tally::add(f, 4294967296))
+    let t1 = of_false(t, e, 1024, tally::add(f, 1));
+    let t2 = of_false(t1, e, 1024, tally::add(f, LAST));
+    let t3 = of_false(t2, e, 1024, tally::add(f, 65536));
+    let t4 = of_false(t3, e, 1024, tally::add(f, 4294967296));
+    check_exchange(
+        check_calls(t4, e, plain::rotation(1024), 1024),
+        e,
+        1024,
+        0,
+        1,
+    )
 }
 
-pub(crate) fn large(t: Tally) -> Tally {
+fn large(t: Tally) -> Tally {
     let words = tally::words(1024);
     let t1 = of_large(t, plain::identity(1024));
     let t2 = of_large(t1, plain::rotation(1024));
@@ -115,10 +82,14 @@ fn of_longs(t: Tally) -> Tally {
     of_long(t3, LAST, LAST)
 }
 
-pub(crate) fn askings(t: Tally) -> Tally {
+fn askings(t: Tally) -> Tally {
     let t1 = of_bad(t, 3, 1, 3);
     let t2 = of_bad(t1, 3, 2, 0);
     let t3 = of_bad(t2, 3, 5, 1);
     let t4 = of_bad(t3, 1024, 1023, 7);
     of_longs(of_bad(t4, 0, 1023, 1))
+}
+
+pub(crate) fn all(t: Tally) -> Tally {
+    askings(large(t))
 }

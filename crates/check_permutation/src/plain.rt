@@ -59,22 +59,12 @@ pub(crate) fn numbered(e: [u16; 1024], n: usize, number: usize) -> Permutation {
 fn same_record(p: Permutation, q: Permutation) -> bool {
     let a = p.entries;
     let b = q.entries;
-    if p.length != q.length {
-        return false;
-    }
-    if p.fixed != q.fixed {
-        return false;
-    }
-    alike(&a, &b)
+    (p.length == q.length) & (p.fixed == q.fixed) & alike(&a, &b)
 }
 
 // A reply with this answer and this record.
 fn replied(r: Reply, number: usize, place: usize, count: usize, right: Permutation) -> bool {
-    let a = r.answer;
-    if answered(a, number, place, count) {
-        return same_record(r.permutation, right);
-    }
-    false
+    answered(r.answer, number, place, count) & same_record(r.permutation, right)
 }
 
 pub(crate) fn compare(

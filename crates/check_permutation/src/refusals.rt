@@ -3,6 +3,7 @@ use crate::plain;
 use permutation_record::Permutation;
 use permutation_record::Reply;
 use tally::Tally;
+ghost use Prim.Native.Nat.{_≤_};
 
 // 0 .. n - 1 with x at place i, and a number that is `off` too high.
 pub(crate) fn spoiled(n: usize, i: usize, x: u16, off: usize) -> Permutation {
@@ -79,15 +80,11 @@ fn of_numbers(t: Tally) -> Tally {
 }
 
 // A shuffle of n places from so many words into `room` entries: the answer, and nothing written.
-fn of_shuffle(t: Tally, n: usize, count: usize, room: usize, number: usize) -> Tally {
+fn of_shuffle(t: Tally, n: usize, count: usize, room: usize, number: usize) -> Tally
+    requires { ⌜ (count ≤ 1024) × (room ≤ 1024) ⌝ }
+{
     let words = tally::words(77);
     let mut out = [7u16; 1024];
-    if 1024 < count {
-        return t;
-    }
-    if 1024 < room {
-        return t;
-    }
     let a = shuffle::shuffle(n, &words[..count], &mut out[..room]);
     let t1 = tally::tallied(t, plain::answered(a, number, 0, 0));
     tally::tallied(t1, plain::alike(&out, &[7u16; 1024]))

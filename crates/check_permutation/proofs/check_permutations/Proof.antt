@@ -20,14 +20,8 @@ digits-requires c κs = search needs
 first-bad-requires : tie.Need-first-bad-requires Inv-loop μ-loop
 first-bad-requires c κs = search needs
 
-rotation-requires : tie.Need-rotation-requires Inv-loop μ-loop
-rotation-requires c κs = search needs
-
-check-calls-requires : tie.Need-check-calls-requires Inv-loop μ-loop
-check-calls-requires c κs = search needs
-
-check-exchanges-requires : tie.Need-check-exchanges-requires Inv-loop μ-loop
-check-exchanges-requires c κs = search needs
+check-permutation-requires : tie.Need-check-permutation-requires Inv-loop μ-loop
+check-permutation-requires c κs = search needs
 
 add-c : tie.Need-add-c Inv-loop μ-loop
 add-c c = search needs
@@ -50,9 +44,7 @@ check-permutations-spec =
     loop-holds
     digits-requires
     first-bad-requires
-    rotation-requires
-    check-calls-requires
-    check-exchanges-requires
+    check-permutation-requires
     add-c
     loop-less
     loop-again

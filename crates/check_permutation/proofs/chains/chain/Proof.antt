@@ -1,21 +1,18 @@
 -- `check_permutation::chains::chain` meets its contract.
 -- Assumes nothing.
-use Prim.Native.Nat.{_-_, _≤_}
 use borrow.Author.Needs.{needs}
+use Prim.Native.Nat.{_-_, _≤_}
 use Rattle.check_permutation.proofs.chains.chain.Statement.{statement}
 use Rattle.check_permutation.proofs.chains.chain.Tie as tie
 
 abbrev Inv-loop : tie.InvT-loop
-Inv-loop n seed t₀ list₀ p₀ x₀ k₀ t list p x k = k ≤ 50
+Inv-loop n seed c₀ x₀ k₀ c x k = k ≤ 50
 
 abbrev μ-loop : tie.MeasureT-loop
-μ-loop n seed t₀ list₀ p₀ x₀ k₀ t list p x k = 50 - k
+μ-loop n seed c₀ x₀ k₀ c x k = 50 - k
 
-identity-requires : tie.Need-identity-requires Inv-loop μ-loop
-identity-requires c κs = search needs
-
-identity-requires-2 : tie.Need-identity-requires-2 Inv-loop μ-loop
-identity-requires-2 c κs = search needs
+starts-requires : tie.Need-starts-requires Inv-loop μ-loop
+starts-requires c κs = search needs
 
 loop-holds : tie.Need-loop-holds Inv-loop μ-loop
 loop-holds c = search needs
@@ -29,20 +26,8 @@ next-requires-2 c κs = search needs
 next-requires-3 : tie.Need-next-requires-3 Inv-loop μ-loop
 next-requires-3 c κs = search needs
 
-drawn-requires : tie.Need-drawn-requires Inv-loop μ-loop
-drawn-requires c κs = search needs
-
 called-requires : tie.Need-called-requires Inv-loop μ-loop
 called-requires c κs = search needs
-
-changed-requires : tie.Need-changed-requires Inv-loop μ-loop
-changed-requires c κs = search needs
-
-record-requires : tie.Need-record-requires Inv-loop μ-loop
-record-requires c κs = search needs
-
-compared-requires : tie.Need-compared-requires Inv-loop μ-loop
-compared-requires c κs = search needs
 
 add-k : tie.Need-add-k Inv-loop μ-loop
 add-k c = search needs
@@ -62,17 +47,12 @@ chain-spec =
     (tie.spec
     Inv-loop
     μ-loop
-    identity-requires
-    identity-requires-2
+    starts-requires
     loop-holds
     next-requires
     next-requires-2
     next-requires-3
-    drawn-requires
     called-requires
-    changed-requires
-    record-requires
-    compared-requires
     add-k
     loop-less
     loop-again

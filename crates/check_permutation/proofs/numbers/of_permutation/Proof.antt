@@ -6,10 +6,13 @@ use Rattle.check_permutation.proofs.numbers.of_permutation.Statement.{s
 use Rattle.check_permutation.proofs.numbers.of_permutation.Tie as tie
 
 abbrev Inv-loop : tie.InvT-loop
-Inv-loop e n t₀ number₀ t number = number ≤ n + 2
+Inv-loop n e right t₀ number₀ t number = number ≤ n + 2
 
 abbrev μ-loop : tie.MeasureT-loop
-μ-loop e n t₀ number₀ t number = n + 2 - number
+μ-loop n e right t₀ number₀ t number = n + 2 - number
+
+fixed-requires : tie.Need-fixed-requires Inv-loop μ-loop
+fixed-requires c κs = search needs
 
 loop-holds : tie.Need-loop-holds Inv-loop μ-loop
 loop-holds c = search needs
@@ -17,8 +20,8 @@ loop-holds c = search needs
 add-loop : tie.Need-add-loop Inv-loop μ-loop
 add-loop c = search needs
 
-of-number-requires : tie.Need-of-number-requires Inv-loop μ-loop
-of-number-requires c κs = search needs
+of-false-requires : tie.Need-of-false-requires Inv-loop μ-loop
+of-false-requires c κs = search needs
 
 add-number : tie.Need-add-number Inv-loop μ-loop
 add-number c = search needs
@@ -38,9 +41,10 @@ of-permutation-spec =
     (tie.spec
     Inv-loop
     μ-loop
+    fixed-requires
     loop-holds
     add-loop
-    of-number-requires
+    of-false-requires
     add-number
     loop-less
     loop-again

@@ -11,17 +11,11 @@ use Rattle.check_permutation.proofs.refusals.of_shuffle.Tie as tie
 words-requires : tie.Need-words-requires
 words-requires c κs = search needs
 
-returns : tie.Need-returns
-returns c = search needs
-
-returns-2 : tie.Need-returns-2
-returns-2 c = search needs
-
 array-share-prefix-words : tie.Need-array-share-prefix-words
 array-share-prefix-words c = search needs
 
 slice-aggregate-shuffle : tie.Need-slice-aggregate-shuffle
-slice-aggregate-shuffle c = let e : length (c .before .before .before .words .result) ≡ 1024 = search needs in sym (length-take-le _ _ (omega arith))
+slice-aggregate-shuffle c = let e : length (c .before .words .result) ≡ 1024 = search needs in sym (length-take-le _ _ (omega arith))
 
 array-borrow-prefix-out : tie.Need-array-borrow-prefix-out
 array-borrow-prefix-out c = search needs
@@ -44,16 +38,14 @@ alike-requires c κs = search needs
 tallied-requires-2 : tie.Need-tallied-requires-2
 tallied-requires-2 c κs = search needs
 
-returns-3 : tie.Need-returns-3
-returns-3 c = search needs
+returns : tie.Need-returns
+returns c = search needs
 
 pub of-shuffle-spec : {M : Type 1} → statement M
 of-shuffle-spec =
     tie.close
     (tie.spec
     words-requires
-    returns
-    returns-2
     array-share-prefix-words
     slice-aggregate-shuffle
     array-borrow-prefix-out
@@ -63,4 +55,4 @@ of-shuffle-spec =
     tallied-requires
     alike-requires
     tallied-requires-2
-    returns-3)
+    returns)
