@@ -25,11 +25,15 @@ use Rattle.capi_values.specs.Crossing.{counted, recordIn, Told, told, Le
 -- ---- answers
 
 module _ {given told : Answer} (same : told ≡ given) where
+  -- whatever a call says of its answer
+  pub answer-crosses : {A : Type 0} (says : Answer → A) {o : A} → says given ≡ o → says told ≡ o
+  answer-crosses says came = ap says same ∙ came
+
   pub log-crosses : {buffer log : List ℕ} {o : Logged} → logged given buffer log ≡ o → logged told buffer log ≡ o
-  log-crosses {buffer} {log} came = ap (λ (a : Answer). logged a buffer log) same ∙ came
+  log-crosses {buffer} {log} came = answer-crosses (λ a. logged a buffer log) came
 
   pub crosses : {buffer : List ℕ} {o : Outcome} → outcome given buffer ≡ o → outcome told buffer ≡ o
-  crosses {buffer} came = ap (λ (a : Answer). outcome a buffer) same ∙ came
+  crosses {buffer} came = answer-crosses (λ a. outcome a buffer) came
 
 module _ (count : ℕ → ℕ) (n : ℕ) where
   pub count-refused : 1024 < n → refusal 1 0 ≡ counted count n

@@ -1,7 +1,7 @@
 -- Setting an order after question 6.
 -- Assumes nothing.
-use mathlib.Core.Path.{_≡_, refl, sym, ap, _∙_}
-use mathlib.Core.List.{List, [], _∷_, _++_}
+use mathlib.Core.Path.{_≡_, sym, ap, _∙_}
+use mathlib.Core.List.{List, [], _++_}
 use Prim.Native.Nat.{ℕ}
 use lib.Dec.{eqb}
 use lib.ListN.{length, drop}
@@ -17,9 +17,8 @@ use Rattle.network.specs.Wiring.{paper}
 use Rattle.network.proofs.Paper.{paper-lawful}
 use Rattle.permutation.specs.Permutations.{firstBadEntry}
 use Rattle.permutation.proofs.Permutations.{passes-permutation}
-use Rattle.canonical.proofs.Only.{canonical-length}
 use Rattle.steps.specs.Setting.{settingFor}
-use Rattle.steps_canonical.proofs.Whole.{setting-canonical}
+use Rattle.steps_canonical.proofs.Setting.{setting-length as length-setting}
 use Rattle.cmd_order.specs.Orders.{entryQuestions, reported, entriesLogged, setReport}
 
 -- the setting of an order that passes question 6 has W bits
@@ -27,7 +26,7 @@ pub setting-length : (order : List ℕ) → firstNo (entryQuestions order) ≡ a
 setting-length order y =
     let n = length order in
     let all = eqb-true (firstBadEntry order) n (passed 6 (firstBadEntry order) (eqb (firstBadEntry order) n) [] y .here) in
-    canonical-length paper n order (settingFor paper order) (setting-canonical paper-lawful n order (passes-permutation order all))
+    length-setting paper-lawful n order (passes-permutation order all)
 
 module _ (order bits : List ℕ) where
   pub set-refused : {a : Answer} → (firstBadEntry order ≡ length order → ⊥) → a ≡ refusal 6 (firstBadEntry order)

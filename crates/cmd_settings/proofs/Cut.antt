@@ -2,18 +2,18 @@
 -- with byte 2,050, so that a longer input has a surplus byte among those read.
 -- Assumes nothing.
 use mathlib.Core.Path.{_≡_, refl, sym, ap, _∙_}
-use mathlib.Core.Bool.{Bool, true, false, _||_}
 use mathlib.Core.List.{List, [], _∷_, _++_}
-use Prim.Native.Nat.{ℕ, zero, suc, _+_, _*_, _%_, _≤_, _<_}
+use Prim.Native.Nat.{ℕ, zero, suc, _+_, _*_, _≤_, _<_}
 use native.Mathlib.Omega.{arith}
 use native.Mathlib.Decide.{decLt}
-use lib.Dec.{ltb, leb}
+use lib.Dec.{leb}
 use lib.ListN.{length, take}
-use lib.Seq.{length-take-le, take-all, getD-take}
-use borrow.Author.Tests.{lt-ltb, le-leb, lt-leb, leb-true}
+use lib.Seq.{length-take-le, take-all}
+use borrow.Author.Tests.{le-leb, lt-leb, leb-true}
 use Rattle.answers.specs.Questions.{Question, ask, Verdict, allYes, noAt, firstNo}
 use Rattle.answers.proofs.Questions.{asked-yes, asked-no, asked-both, asked-first, passed, both-pass}
-use Rattle.numbers.specs.Numbers.{byteAt, oneByte, ends, numberQuestions, NumberAnswer, valueAt, placeAfter, numberAt, sevens}
+use Rattle.numbers.specs.Numbers.{numberQuestions, NumberAnswer, numberAt, sevens}
+use Rattle.numbers.proofs.Reach.{place-near, asked-alike, read-alike}
 use Rattle.rows.specs.Rows.{numbersQuestions, placePast}
 use Rattle.cmd_order.specs.Orders.{countIn, entriesAt, orderIn, endOf, formQuestions, entryQuestions, orderQuestions}
 use Rattle.cmd_order.proofs.Asking.{places-small}
@@ -30,18 +30,6 @@ both qs rs ts us e f = go (firstNo qs) refl
 
 -- ---- how far numbers reach
 
-place-near : (input : List ℕ) (at : ℕ) → numberAt input at .next ≤ at + 2
-unfolding numberAt
-place-near input at = go (firstNo (numberQuestions input at)) refl
-  where
-    after : (b : Bool) → oneByte input at ≡ b → placeAfter input at ≤ at + 2
-    after true t = rw (t, placeAfter) (omega arith)
-    after false t = rw (t, placeAfter) (omega arith)
-
-    go : (v : Verdict) → firstNo (numberQuestions input at) ≡ v → numberAt input at .next ≤ at + 2
-    go allYes t = rw t (after (oneByte input at) refl)
-    go (noAt q p) t = rw t (omega arith)
-
 row-near : (input : List ℕ) (k at : ℕ) → placePast sevens k input at ≤ at + 2 * k
 unfolding placePast
 row-near input zero at = omega arith
@@ -49,52 +37,16 @@ row-near input (suc k) at = omega (arith, place-near input at, row-near input k 
 
 -- ---- numbers that lie in the first m bytes
 
--- a number and the place after it, from its bytes
-abbrev valueOf : ℕ → ℕ → ℕ
-valueOf low high = elim (ltb low 128) [ true ↦ low | false ↦ low % 128 + high * 128 ]
-
-abbrev placeOf : ℕ → ℕ → ℕ
-placeOf at low = elim (ltb low 128) [ true ↦ at + 1 | false ↦ at + 2 ]
-
-either : (b : Bool) → (b || true) ≡ true
-either true = refl
-either false = refl
-
--- a number with two bytes before the end can only be in a bad form
-form-asked : (input : List ℕ) (at : ℕ) → at + 1 < length input
-    → firstNo (numberQuestions input at) ≡ firstNo (ask 9 at (oneByte input at || ends (byteAt input (at + 1))) ∷ [])
-unfolding numberQuestions
-form-asked input at h =
-    let third : List Question = ask 9 at (oneByte input at || ends (byteAt input (at + 1))) ∷ [] in
-    let b : Bool = oneByte input at || ltb (at + 1) (length input) in
-    asked-yes 8 (length input) (ltb at (length input)) (ask 8 (length input) b ∷ third) (lt-ltb at (length input) (omega arith))
-    ∙ asked-yes 8 (length input) b third (rw (lt-ltb (at + 1) (length input) h) (either (oneByte input at)))
-
 module _ (input : List ℕ) (m : ℕ) (long : m ≤ length input) where
-  asked-alike : (at : ℕ) → at + 1 < m → firstNo (numberQuestions (take m input) at) ≡ firstNo (numberQuestions input at)
-  asked-alike at h =
-      let ninth : List ℕ → List Question = λ bytes. ask 9 at (oneByte bytes at || ends (byteAt bytes (at + 1))) ∷ [] in
-      let same : firstNo (ninth (take m input)) ≡ firstNo (ninth input) = rw (getD-take m input at 0 (omega arith), getD-take m input (at + 1) 0 h) in
-      form-asked (take m input) at (omega (arith, length-take-le m input long)) ∙ same ∙ sym (form-asked input at (omega arith))
-
-  read-alike : (at : ℕ) → at + 1 < m → numberAt (take m input) at ≡ numberAt input at
-  unfolding numberAt
-  read-alike at h =
-      let low : byteAt (take m input) at ≡ byteAt input at = getD-take m input at 0 (omega arith) in
-      let high : byteAt (take m input) (at + 1) ≡ byteAt input (at + 1) = getD-take m input (at + 1) 0 h in
-      let value : valueAt (take m input) at ≡ valueAt input at = ap (λ b. valueOf b (byteAt (take m input) (at + 1))) low ∙ ap (valueOf (byteAt input at)) high in
-      let place : placeAfter (take m input) at ≡ placeAfter input at = ap (placeOf at) low in
-      rw (asked-alike at h, value, place)
-
   next-alike : (at : ℕ) → at + 1 < m → numberAt (take m input) at .next ≡ numberAt input at .next
-  next-alike at h = ap (λ (a : NumberAnswer). a .next) (read-alike at h)
+  next-alike at h = ap (λ (a : NumberAnswer). a .next) (read-alike input m long at h)
 
   row-asked : (k at : ℕ) → at + 2 * k ≤ m → firstNo (numbersQuestions sevens k (take m input) at) ≡ firstNo (numbersQuestions sevens k input at)
   unfolding numbersQuestions
   row-asked zero at h = refl
   row-asked (suc k) at h =
       rw (next-alike at (omega arith))
-      (both (numberQuestions (take m input) at) (numberQuestions input at) _ _ (asked-alike at (omega arith))
+      (both (numberQuestions (take m input) at) (numberQuestions input at) _ _ (asked-alike input m long at (omega arith))
       (row-asked k (numberAt input at .next) (omega (arith, place-near input at))))
 
   row-place : (k at : ℕ) → at + 2 * k ≤ m → placePast sevens k (take m input) at ≡ placePast sevens k input at

@@ -7,3 +7,4 @@ pub mod Entering
 pub mod Leaving
 pub mod Level
 pub mod Whole
+pub mod Setting
