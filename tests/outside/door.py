@@ -81,7 +81,7 @@ class Door:
         if err is not None:
             same(complained, err and err + '\n', f'{what}: standard error')
         if out is not None:
-            same(said[:len(out)], out, f'{what}: standard output')
+            same(said[:len(out)] if out else said, out, f'{what}: standard output')
         return said
 
     def put_aside(self, program, text):
