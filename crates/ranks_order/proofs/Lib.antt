@@ -1,0 +1,6 @@
+pub mod Past
+pub mod OrderAt
+pub mod Dictionary
+pub mod Listed
+pub mod Digits
+pub mod Writing
