@@ -1,4 +1,5 @@
--- What the questions of an accepted set say; those of mix and return: apply, proofs/Asked.
+-- What the questions of an accepted set say; those of mix and return: apply_questions, proofs/Asked; of a listed order: ranks,
+-- proofs/Asked.
 -- Assumes nothing.
 use mathlib.Core.Path.{_≡_}
 use mathlib.Core.List.{List}

@@ -1,16 +1,15 @@
 -- Demands 1 and 3: one claim about the whole logs of any two accepted calls.
 -- Assumes nothing.
 use mathlib.Core.Path.{_≡_, refl, sym, ap, _∙_}
-use mathlib.Core.List.{List, []}
+use mathlib.Core.List.{List, [], _∷_}
 use Prim.Native.Nat.{ℕ, _*_}
-use native.Mathlib.Omega.{arith}
 use lib.ListN.{length}
 use Rattle.answers.specs.declared.Answer.{Answer}
 use Rattle.answers.specs.Questions.{Verdict, noAt, allYes, firstNo}
 use Rattle.answers.specs.Buffers.{overlay}
 use Rattle.answers.specs.Outcomes.{Logged, settledLogged}
 use Rattle.answers.proofs.Outcomes.{Numbered, accepted-when, logged-refused}
-use Rattle.counts.specs.Counts.{W}
+use Rattle.counts.specs.Counts.{W, E}
 use Rattle.network.specs.Wiring.{paper}
 use Rattle.network.specs.Blocks.{cut, bytesOf, moved, movedBack}
 use Rattle.network.specs.Log.{Entry, words, entries}
@@ -29,26 +28,11 @@ use Rattle.apply_questions.specs.Questions.{applyQuestions}
 use Rattle.apply.specs.Calls.{applyCall, inverseCall}
 use Rattle.apply_questions.proofs.Asked.{passes, numbered}
 use Rattle.control.specs.Calls.{setCall}
-use Rattle.claims.specs.Calls.{
-  Direction,
-  mixing,
-  returning,
-  Call,
-  set,
-  move,
-  moving,
-  entriesDue,
-  countDue,
-  moveCall,
-  runMove,
-  movedBy,
-  described,
-  outcomeOf,
-  Accepted,
-  countOf,
-  due,
-  written,
-}
+use Rattle.ranks_order.specs.Ranks.{orderAt}
+use Rattle.ranks_order.proofs.OrderAt.{length-orderAt, order-permutation}
+use Rattle.ranks.specs.Calls.{rankedCall}
+use Rattle.ranks.proofs.Asked.{rank-asked, rank-numbered}
+use Rattle.claims.specs.Calls.{Direction, mixing, returning, Call, set, move, rank, moving, entriesDue, countDue, moveCall, runMove, movedBy, described, outcomeOf, Accepted, due, written}
 use Rattle.claims.specs.Demands.{Demand1, Logs, Demand3}
 use Rattle.claims.proofs.Asked.{set-asked, set-numbered}
 use Rattle.claims.proofs.Settled.{Left, left}
@@ -61,6 +45,7 @@ asked c = firstNo (described c .questions)
 abbrev pub resultOf : Call → List ℕ
 resultOf (set order bits log) = settingOf paper order (setEntries paper (length order))
 resultOf (move d n width blocks bits log) = movedBy d n width bits blocks
+resultOf (rank n r list bits log) = settingOf paper (orderAt n r) (setEntries paper n)
 
 abbrev pub dueEntries : Call → List Entry
 dueEntries c = entriesDue (described c .kind) (described c .places)
@@ -68,6 +53,7 @@ dueEntries c = entriesDue (described c .kind) (described c .places)
 record Laws (c : Call) : Type 0 where
   settles : outcomeOf c
       ≡ settledLogged (asked c) (due c) (resultOf c) (described c .buffer) (words (dueEntries c)) (described c .log)
+  kept : {q p : ℕ} → asked c ≡ noAt q p → described c .besideLeft ≡ described c .beside
   all-numbered : Numbered (described c .questions)
   counted : length (dueEntries c) ≡ due c
   runs : described c .run (dueEntries c) ≡ resultOf c
@@ -84,6 +70,7 @@ module _ (order bits log : List ℕ) where
       let n = length order in
       record {
         settles = refl;
+        kept = λ e. refl;
         all-numbered = set-numbered order bits log;
         counted = length-setEntries paper n;
         runs = refl;
@@ -119,6 +106,7 @@ module _ (n width : ℕ) (blocks bits log : List ℕ) where
   move-laws d =
       record {
         settles = move-settles d;
+        kept = λ e. refl;
         all-numbered = numbered n width (length blocks) bits (length log);
         counted = move-counted d;
         runs = move-runs d;
@@ -128,9 +116,39 @@ module _ (n width : ℕ) (blocks bits log : List ℕ) where
             length-movedBy d fill ∙ sym fill;
       }
 
+module _ (n r : ℕ) (list bits log : List ℕ) where
+  -- the call runs the entries of as many places as the order has: n
+  rank-settles : outcomeOf (rank n r list bits log)
+      ≡ settledLogged (asked (rank n r list bits log)) (E n) (resultOf (rank n r list bits log)) bits (words (setEntries paper n)) log
+  unfolding rankedCall
+  rank-settles = rw (length-orderAt n r)
+
+  rank-kept : {q p : ℕ} → asked (rank n r list bits log) ≡ noAt q p → rankedCall n r list bits log .list ∷ [] ≡ list ∷ []
+  unfolding rankedCall
+  rank-kept e = rw e
+
+  rank-right : asked (rank n r list bits log) ≡ allYes
+      → described (rank n r list bits log) .Right (resultOf (rank n r list bits log))
+  rank-right e = setting-canonical paper-lawful n (orderAt n r) (order-permutation n r (rank-asked n r list bits log e .rank-below))
+
+  rank-laws : Laws (rank n r list bits log)
+  rank-laws =
+      record {
+        settles = rank-settles;
+        kept = rank-kept;
+        all-numbered = rank-numbered n r list bits log;
+        counted = length-setEntries paper n;
+        runs = refl;
+        right = rank-right;
+        fills = λ e.
+            canonical-length paper n (orderAt n r) (resultOf (rank n r list bits log)) (rank-right e)
+            ∙ sym (rank-asked n r list bits log e .bit-count);
+      }
+
 laws : (c : Call) → Laws c
 laws (set order bits log) = set-laws order bits log
 laws (move d n width blocks bits log) = move-laws n width blocks bits log d
+laws (rank n r list bits log) = rank-laws n r list bits log
 
 -- ---- demand 1
 
@@ -156,6 +174,7 @@ demand1 c =
           laws c .settles
           ∙ sym
           (logged-refused (asked c) (due c) (resultOf c) (described c .buffer) (words (dueEntries c)) (described c .log) e refl refl refl);
+      beside-kept = laws c .kept;
     }
 
 -- ---- demand 3

@@ -16,6 +16,7 @@ pub record Demand1 (c : Call) : Type 0 where
   pub accepted-only : Accepted c → firstNo (described c .questions) ≡ allYes
   pub refuses : {q p : ℕ} → firstNo (described c .questions) ≡ noAt q p
       → outcomeOf c ≡ logged (refusal q p) (described c .buffer) (described c .log)
+  pub beside-kept : {q p : ℕ} → firstNo (described c .questions) ≡ noAt q p → described c .besideLeft ≡ described c .beside
 
 -- what holds of the whole log of one accepted call
 pub record Logs (c : Call) : Type 0 where
