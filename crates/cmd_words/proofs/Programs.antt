@@ -6,7 +6,7 @@ use native.Mathlib.Omega.{arith}
 use lib.ListN.{length, length-append}
 use Rattle.cmd_lines.specs.Text.{text}
 use Rattle.cmd_words.specs.declared.Program.{Program}
-use Rattle.cmd_words.specs.declared.Program.the-variants.{Draw, Sheet, Mix, Unmix, Show, Settings, Chart}
+use Rattle.cmd_words.specs.declared.Program.the-variants.{Draw, Sheet, Mix, Unmix, Show, Settings, Chart, List as Listing}
 use Rattle.cmd_words.specs.Programs.{nameOf, subjectOf}
 
 name-few : (program : Program) → length (nameOf program) ≤ 8
@@ -17,6 +17,7 @@ name-few Unmix = omega arith
 name-few Show = omega arith
 name-few Settings = omega arith
 name-few Chart = omega arith
+name-few Listing = omega arith
 
 pub subject-room : (program : Program) (what : List ℕ) {room : ℕ} → 10 + length what ≤ room → 0 + length (subjectOf program what) ≤ room
 subject-room program what h = omega (arith, length-append (nameOf program) (text ": " ++ what), name-few program)

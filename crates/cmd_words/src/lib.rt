@@ -12,6 +12,7 @@ pub enum Program {
     Show,
     Settings,
     Chart,
+    List,
 }
 
 // How to call a program, over the front of line.
@@ -30,6 +31,7 @@ pub fn usage_text(program: Program, line: &mut [u8; 53]) -> usize
         Program::Show => cmd_lines::put_text(line, 0, b"usage: show SHEET\n"),
         Program::Settings => cmd_lines::put_text(line, 0, b"usage: settings < ORDER\n"),
         Program::Chart => cmd_lines::put_text(line, 0, b"usage: chart < BLOCKS\n"),
+        Program::List => cmd_lines::put_text(line, 0, b"usage: list < LENGTH\n"),
     }
 }
 
@@ -47,6 +49,7 @@ fn put_name(program: Program, out: &mut [u8]) -> usize
         Program::Show => cmd_lines::put_text(out, 0, b"show"),
         Program::Settings => cmd_lines::put_text(out, 0, b"settings"),
         Program::Chart => cmd_lines::put_text(out, 0, b"chart"),
+        Program::List => cmd_lines::put_text(out, 0, b"list"),
     }
 }
 

@@ -68,6 +68,15 @@ slice-aggregate-put-text-7 c = search needs
 put-text-requires-7 : tie.Need-put-text-requires-7
 put-text-requires-7 c κs = search needs
 
+enum-told-8 : tie.Need-enum-told-8
+enum-told-8 c = search needs
+
+slice-aggregate-put-text-8 : tie.Need-slice-aggregate-put-text-8
+slice-aggregate-put-text-8 c = search needs
+
+put-text-requires-8 : tie.Need-put-text-requires-8
+put-text-requires-8 c κs = search needs
+
 same-length : tie.Need-same-length
 same-length c = search needs
 
@@ -110,6 +119,12 @@ same-length-7 c = search needs
 returns-7 : tie.Need-returns-7
 returns-7 c = (rw (c .before .before .before .before .before .enum-told7 .given .1) (c .before .before .put-text7 .ensures), omega (arith, c .before .before .put-text7 .ensures .place))
 
+same-length-8 : tie.Need-same-length-8
+same-length-8 c = search needs
+
+returns-8 : tie.Need-returns-8
+returns-8 c = (rw (c .before .before .before .before .before .enum-told8 .given .1) (c .before .before .put-text8 .ensures), omega (arith, c .before .before .put-text8 .ensures .place))
+
 pub put-name-spec : {M : Type 1} → statement M
 put-name-spec =
     tie.close
@@ -135,6 +150,9 @@ put-name-spec =
     enum-told-7
     slice-aggregate-put-text-7
     put-text-requires-7
+    enum-told-8
+    slice-aggregate-put-text-8
+    put-text-requires-8
     same-length
     returns
     same-length-2
@@ -148,4 +166,6 @@ put-name-spec =
     same-length-6
     returns-6
     same-length-7
-    returns-7)
+    returns-7
+    same-length-8
+    returns-8)

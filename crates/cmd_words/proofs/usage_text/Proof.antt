@@ -67,6 +67,15 @@ slice-aggregate-put-text-7 c = search needs
 put-text-requires-7 : tie.Need-put-text-requires-7
 put-text-requires-7 c κs = search needs
 
+enum-told-8 : tie.Need-enum-told-8
+enum-told-8 c = search needs
+
+slice-aggregate-put-text-8 : tie.Need-slice-aggregate-put-text-8
+slice-aggregate-put-text-8 c = search needs
+
+put-text-requires-8 : tie.Need-put-text-requires-8
+put-text-requires-8 c κs = search needs
+
 returns : tie.Need-returns
 returns c = rw (c .before .before .before .enum-told .given .1) (c .put-text .ensures)
 
@@ -87,6 +96,9 @@ returns-6 c = rw (c .before .before .before .enum-told6 .given .1) (c .put-text6
 
 returns-7 : tie.Need-returns-7
 returns-7 c = rw (c .before .before .before .enum-told7 .given .1) (c .put-text7 .ensures)
+
+returns-8 : tie.Need-returns-8
+returns-8 c = rw (c .before .before .before .enum-told8 .given .1) (c .put-text8 .ensures)
 
 pub usage-text-spec : {M : Type 1} → statement M
 usage-text-spec =
@@ -113,10 +125,14 @@ usage-text-spec =
     enum-told-7
     slice-aggregate-put-text-7
     put-text-requires-7
+    enum-told-8
+    slice-aggregate-put-text-8
+    put-text-requires-8
     returns
     returns-2
     returns-3
     returns-4
     returns-5
     returns-6
-    returns-7)
+    returns-7
+    returns-8)

@@ -1,0 +1,105 @@
+-- The text of an input, question by question; and the program, which reads at most 3 bytes, prints what the whole input would give:
+-- a number ends with the second byte at the latest, so that a longer input has a surplus byte among those read.
+-- Assumes nothing.
+use mathlib.Core.Path.{_≡_, refl, sym, ap, _∙_}
+use mathlib.Core.List.{List, [], _∷_}
+use Prim.Native.Nat.{ℕ, _≤_, _<_}
+use native.Mathlib.Omega.{arith}
+use native.Mathlib.Decide.{decLt}
+use lib.Dec.{leb}
+use lib.ListN.{length, take}
+use lib.Seq.{length-take-le, take-all}
+use borrow.Author.Tests.{le-leb, lt-leb}
+use Rattle.answers.specs.Questions.{Question, ask, Verdict, allYes, noAt, firstNo}
+use Rattle.answers.specs.Buffers.{Put}
+use Rattle.answers.proofs.Questions.{asked-yes, asked-no, asked-both, asked-first}
+use Rattle.numbers.specs.Numbers.{numberQuestions, NumberAnswer, sevens}
+use Rattle.numbers.proofs.Numbers.{Reads}
+use Rattle.numbers.proofs.Reach.{place-near, asked-alike, read-alike}
+use Rattle.cmd_lines.specs.Text.{refusalLine}
+use Rattle.cmd_lines.specs.Written.{written}
+use Rattle.cmd_lines.proofs.Written.{text-written}
+use Rattle.cmd_list.specs.Listing.{ordersOf, lengthIn, pastLength, lengthQuestions, listQuestions, textOf, ordersText, listCall}
+
+-- a text that was put at the front of the buffer, where it is the input's
+pub prints :
+    (input : List ℕ) {text before after : List ℕ} {r : ℕ}
+    → ordersText input ≡ text
+    → Put before 0 text r after
+    → written r after ≡ listCall input before
+prints input e P = rw e (text-written P)
+
+-- ---- question by question
+
+module _ (input : List ℕ) where
+  text-of : {v : Verdict} → firstNo (listQuestions input) ≡ v → ordersText input ≡ textOf v input
+  unfolding ordersText
+  text-of e = ap (λ v. textOf v input) e
+
+  pub no-number : {q p : ℕ} → firstNo (numberQuestions input 0) ≡ noAt q p → ordersText input ≡ refusalLine q p
+  unfolding listQuestions
+  no-number e = text-of (asked-first (numberQuestions input 0) (lengthQuestions input) e)
+
+  module _ {n next : ℕ} (N : Reads sevens input 0 n next) where
+    last : List Question
+    last = ask 12 (pastLength input) (leb (length input) (pastLength input)) ∷ []
+
+    past-number : {v : Verdict} → firstNo (ask 17 0 (leb (lengthIn input) 6) ∷ last) ≡ v → ordersText input ≡ textOf v input
+    unfolding listQuestions last
+    past-number e = text-of (asked-both (numberQuestions input 0) (lengthQuestions input) (N .asked) ∙ e)
+
+    pub too-long : 6 < n → ordersText input ≡ refusalLine 17 0
+    too-long h = past-number (asked-no 17 0 (leb (lengthIn input) 6) last (lt-leb (lengthIn input) 6 (omega (arith, N .value))))
+
+    module _ (short : n ≤ 6) where
+      past-length : {v : Verdict} → firstNo last ≡ v → ordersText input ≡ textOf v input
+      past-length e = past-number (asked-yes 17 0 (leb (lengthIn input) 6) last (le-leb (lengthIn input) 6 (omega (arith, N .value))) ∙ e)
+
+      pub surplus : next < length input → ordersText input ≡ refusalLine 12 next
+      unfolding last
+      surplus h =
+          let goes-on = lt-leb (length input) (pastLength input) (omega (arith, N .next)) in
+          past-length (asked-no 12 (pastLength input) (leb (length input) (pastLength input)) [] goes-on) ∙ ap (refusalLine 12) (N .next)
+
+      pub all-orders : length input ≤ next → ordersText input ≡ ordersOf n
+      unfolding last
+      all-orders h =
+          let ends = le-leb (length input) (pastLength input) (omega (arith, N .next)) in
+          past-length (asked-yes 12 (pastLength input) (leb (length input) (pastLength input)) [] ends) ∙ ap ordersOf (N .value)
+
+-- ---- three bytes are enough
+
+module _ (input : List ℕ) (long : 3 ≤ length input) where
+  read : firstNo (numberQuestions input 0) ≡ allYes → Reads sevens input 0 (lengthIn input) (pastLength input)
+  read t = record { asked = t; value = refl; next = refl }
+
+  -- the first three bytes give the same number
+  cut-read : firstNo (numberQuestions input 0) ≡ allYes → Reads sevens (take 3 input) 0 (lengthIn input) (pastLength input)
+  cut-read t =
+      let same = read-alike input 3 long 0 (omega arith) in
+      record {
+        asked = asked-alike input 3 long 0 (omega arith) ∙ t;
+        value = ap (λ (a : NumberAnswer). a .value) same;
+        next = ap (λ (a : NumberAnswer). a .next) same;
+      }
+
+  text-alike : ordersText (take 3 input) ≡ ordersText input
+  text-alike = go (firstNo (numberQuestions input 0)) refl
+    where
+      sized : firstNo (numberQuestions input 0) ≡ allYes → Dec (6 < lengthIn input) → ordersText (take 3 input) ≡ ordersText input
+      sized t (yes h) = too-long (take 3 input) (cut-read t) h ∙ sym (too-long input (read t) h)
+      sized t (no h) =
+          let near = place-near input 0 in
+          surplus (take 3 input) (cut-read t) (omega arith) (omega (arith, length-take-le 3 input long, near))
+          ∙ sym (surplus input (read t) (omega arith) (omega (arith, long, near)))
+
+      go : (v : Verdict) → firstNo (numberQuestions input 0) ≡ v → ordersText (take 3 input) ≡ ordersText input
+      go allYes t = sized t (decLt 6 (lengthIn input))
+      go (noAt q p) t = no-number (take 3 input) (asked-alike input 3 long 0 (omega arith) ∙ t) ∙ sym (no-number input t)
+
+pub list-cut : (input : List ℕ) → ordersText (take 3 input) ≡ ordersText input
+list-cut input = go (decLt (length input) 3)
+  where
+    go : Dec (length input < 3) → ordersText (take 3 input) ≡ ordersText input
+    go (yes h) = ap ordersText (take-all 3 input (omega arith))
+    go (no h) = text-alike input (omega arith)
