@@ -8,11 +8,12 @@
  * What the caller owes, as everywhere in C: a pointer is aligned, is not NULL even where the length behind it is 0, and points
  * to as many items as that length says; what a call may write overlaps nothing else that the same call is handed.
  *
- * Stack: at 1,024 places the calls need at most 12 KB of it (control_bits 11.3, permutation_combine 10.6, permutation_exchange
- * and permutation_inverse 6.5, write_sheet 4.8, permutation_identity 4.5, read_sheet 3.5, apply_inverse 3.2, apply 2.7, the
- * others 2.1 or less), as bench/stack reads from the object code. For a thread allow 20 KB, which holds the C library's own needs
- * too: its first memcpy, where it is linked dynamically, takes some KB more (permutation_combine ran in 18 KB and not in 17; the
- * other calls on permutations, control_bits, apply and write_sheet in 16). No heap. */
+ * Stack: at 1,024 places the calls need at most 12 KB of it (control_bits 11.3, permutation_combine 10.6, ranked_order 7.4 at
+ * 6 places, permutation_exchange and permutation_inverse 6.5, write_sheet 4.8, permutation_identity 4.5, read_sheet 3.5,
+ * apply_inverse 3.2, apply 2.7, the others 2.1 or less), as bench/stack reads from the object code. For a thread allow 20 KB,
+ * which holds the C library's own needs too: its first memcpy, where it is linked dynamically, takes some KB more
+ * (permutation_combine ran in 18 KB and not in 17; the other calls on permutations, control_bits, ranked_order, apply and
+ * write_sheet in 16). No heap. */
 #ifndef LOMUVERAN_H
 #define LOMUVERAN_H
 
@@ -30,6 +31,9 @@ extern "C" {
 #define LOMUVERAN_MAX_ENTRIES 16381
 #define LOMUVERAN_MAX_SHEET 1320
 
+/* The most places whose orders are listed. */
+#define LOMUVERAN_MAX_LISTED 6
+
 /* The questions, named by their no. */
 enum {
     LOMUVERAN_ACCEPTED = 0,
@@ -46,10 +50,12 @@ enum {
     LOMUVERAN_FORM = 10,           /* is the form number 1? */
     LOMUVERAN_FILL = 11,           /* are the fill bits 0? place: the last number's first byte */
     LOMUVERAN_SURPLUS = 12,        /* does the input end there? place: the first surplus byte */
-    LOMUVERAN_OUTPUT = 13,         /* is the output long enough? */
-    LOMUVERAN_PLACES = 14,         /* are both exchanged places below the length? */
+    LOMUVERAN_OUTPUT = 13,         /* is the output long enough (of a listed order: has its list n entries)? */
+    LOMUVERAN_PLACES = 14,         /* are both exchanged places below the length (of a listed order: is r below the number of
+                                    * orders)? */
     LOMUVERAN_LENGTHS = 15,        /* have both orders one length? */
-    LOMUVERAN_WORDS = 16           /* are there exactly n words? */
+    LOMUVERAN_WORDS = 16,          /* are there exactly n words? */
+    LOMUVERAN_NOT_LISTED = 17      /* is n at most 6, so that its orders are listed? */
 };
 
 /* number: 0, or that of the question that got a no; place: where, 0 unless the question names one; count: what the call
@@ -84,6 +90,14 @@ lomuveran_answer lomuveran_apply_inverse(size_t n, size_t width, uint8_t *blocks
 
 /* Draw: an order of n places from n random words, over the front of out. Questions 1, 16, 13. Count: n. */
 lomuveran_answer lomuveran_shuffle(size_t n, const uint32_t *words, size_t word_count, uint16_t *out, size_t out_len);
+
+/* Every order of a few places, n at most LOMUVERAN_MAX_LISTED: of all orders of n places in dictionary order (0 to 6 places have
+ * 1, 1, 2, 6, 24, 120, 720 of them) the one of number r, counted from 0, over the front of order; its control bits and the log
+ * are those of lomuveran_control_bits. order_len: at least n; bit_count: exactly the switches of n places; log_words: at least 3
+ * for each entry of the setter. r tells the order, so it is treated as a secret: the one decision that follows it is question
+ * 14's. Questions 17, 14, 13, 4, 5. Count: the entries logged. */
+lomuveran_answer lomuveran_ranked_order(size_t n, size_t r, uint16_t *order, size_t order_len, uint8_t *bits, size_t bit_count,
+                                        uint16_t *log, size_t log_words);
 
 /* ---- sheets */
 

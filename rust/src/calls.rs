@@ -102,6 +102,34 @@ pub fn shuffle(n: usize, words: &[u32], out: &mut [u16]) -> Result<usize, Refusa
     unsafe { ffi::lomuveran_shuffle(n, words.as_ptr(), words.len(), out.as_mut_ptr(), out.len()) }.count()
 }
 
+/// Of all orders of n places, at most [`MAX_LISTED`](crate::MAX_LISTED), in dictionary order, n! of them, the one of number r,
+/// counted from 0, over the front of `order`; its setting and the log as [`control_bits`] leaves them. r is as secret as the
+/// order. Questions 17, 14, 13, 4, 5. Gives the number of entries logged.
+///
+/// ```
+/// let (mut order, mut bits, mut log) = ([9; 4], [0; 3], [0; 33]);
+/// assert_eq!(lomuveran::ranked_order(3, 3, &mut order, &mut bits, &mut log), Ok(11));
+/// assert_eq!(order, [1, 2, 0, 9]);
+/// assert_eq!(bits, [0, 1, 1]);
+/// assert_eq!(lomuveran::ranked_order(3, 6, &mut order, &mut bits, &mut log).unwrap_err().question, 14);
+/// ```
+pub fn ranked_order(n: usize, r: usize, order: &mut [u16], bits: &mut [u8], log: &mut [u16]) -> Result<usize, Refusal> {
+    // SAFETY: as above.
+    unsafe {
+        ffi::lomuveran_ranked_order(
+            n,
+            r,
+            order.as_mut_ptr(),
+            order.len(),
+            bits.as_mut_ptr(),
+            bits.len(),
+            log.as_mut_ptr(),
+            log.len(),
+        )
+    }
+    .count()
+}
+
 /// The sheet of a setting, over the front of `out`. Questions 1, 4, 7, 13. Gives the number of bytes written.
 ///
 /// ```

@@ -82,6 +82,16 @@ extern "C" {
         log_words: usize,
     ) -> Answer;
     pub fn lomuveran_shuffle(n: usize, words: *const u32, word_count: usize, out: *mut u16, out_len: usize) -> Answer;
+    pub fn lomuveran_ranked_order(
+        n: usize,
+        r: usize,
+        order: *mut u16,
+        order_len: usize,
+        bits: *mut u8,
+        bit_count: usize,
+        log: *mut u16,
+        log_words: usize,
+    ) -> Answer;
     pub fn lomuveran_write_sheet(n: usize, bits: *const u8, bit_count: usize, out: *mut u8, out_len: usize) -> Answer;
     pub fn lomuveran_read_sheet(input: *const u8, input_len: usize, bits: *mut u8, bit_count: usize) -> Answer;
     pub fn lomuveran_read_number(input: *const u8, input_len: usize, at: usize) -> Number;

@@ -1,4 +1,4 @@
-use crate::{ffi, Refusal, MAX_PLACES};
+use crate::{ffi, Refusal, Setting, MAX_LISTED, MAX_PLACES};
 
 /// A permutation of at most 1,024 places (an order): entry i is the place to which the block at place i goes.
 ///
@@ -55,6 +55,27 @@ impl Permutation {
         crate::shuffle(words.len(), words, &mut entries)?;
         let fixed = Permutation::fixed_of(&entries).expect("what is drawn is a permutation");
         Ok(Permutation { entries, fixed })
+    }
+
+    /// Of all orders of n places, at most [`MAX_LISTED`], in dictionary order, n! of them, the one of number r, counted from 0,
+    /// with its setting.
+    /// Questions 17, 14.
+    ///
+    /// ```
+    /// use lomuveran::Permutation;
+    ///
+    /// let (order, setting) = Permutation::ranked(3, 3).unwrap();
+    /// assert_eq!((order.entries(), setting.bits()), (&[1, 2, 0][..], &[0, 1, 1][..]));
+    /// assert_eq!((0..).map_while(|r| Permutation::ranked(6, r).ok()).count(), 720);
+    /// assert_eq!(Permutation::ranked(7, 0).unwrap_err().question, 17);
+    /// ```
+    pub fn ranked(n: usize, r: usize) -> Result<(Permutation, Setting), Refusal> {
+        // more places are refused before their buffers are looked at
+        let places = n.min(MAX_LISTED);
+        let (mut entries, mut bits) = (vec![0; places], vec![0; crate::switches(places)?]);
+        crate::ranked_order(n, r, &mut entries, &mut bits, &mut vec![0; 3 * crate::entries(places)?])?;
+        let fixed = Permutation::fixed_of(&entries).expect("a listed order is a permutation");
+        Ok((Permutation { entries, fixed }, Setting::from_bits(n, &bits).expect("its bits are a setting")))
     }
 
     /// Exchanges entries i and j. Question 14.

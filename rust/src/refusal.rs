@@ -9,7 +9,7 @@ use std::{error::Error, fmt};
 /// ```
 #[derive(Clone, Copy, Debug, PartialEq, Eq, Hash)]
 pub struct Refusal {
-    /// 1 to 16.
+    /// 1 to 17.
     pub question: usize,
     /// An index, counted from 0.
     pub place: usize,
@@ -32,9 +32,10 @@ impl Refusal {
             11 => "a fill bit is not 0",
             12 => "the input goes on after the sheet",
             13 => "the output is too short",
-            14 => "an exchanged place is not below the length",
+            14 => "an exchanged place is not below the length (of listed orders: none has so high a number)",
             15 => "the two orders have different lengths",
             16 => "there are not exactly n words",
+            17 => "there are more than 6 places, and the orders of so many are not listed",
             _ => "no such question",
         }
     }

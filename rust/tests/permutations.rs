@@ -170,8 +170,8 @@ fn counts() {
 #[test]
 fn each_question_has_a_text() {
     let mut tally = Tally::default();
-    let texts: std::collections::HashSet<&str> = (1..=16).map(|question| Refusal { question, place: 0 }.text()).collect();
-    tally.same(texts.len(), 16, "texts");
-    tally.same(texts.contains(Refusal { question: 17, place: 0 }.text()), false, "question 17");
+    let texts: std::collections::HashSet<&str> = (1..=17).map(|question| Refusal { question, place: 0 }.text()).collect();
+    tally.same(texts.len(), 17, "texts");
+    tally.same(texts.contains(Refusal { question: 18, place: 0 }.text()), false, "question 18");
     tally.say("texts of the questions");
 }

@@ -1,5 +1,5 @@
 /* The header against the library: sizes and layout, each prototype, an accepted call of each, every refusal of the calls on
- * permutations and of the chart, and memory around what is lent. Compiled as C and as C++. */
+ * permutations, of the chart and of listed orders, and memory around what is lent. Compiled as C and as C++. */
 #include "lomuveran.h"
 
 #include <stdio.h>
@@ -43,6 +43,8 @@ static lomuveran_answer (*const of_set)(const uint16_t *, size_t, uint8_t *, siz
 static lomuveran_answer (*const of_mix[])(size_t, size_t, uint8_t *, size_t, const uint8_t *, size_t, uint16_t *, size_t) = {
     lomuveran_apply, lomuveran_apply_inverse};
 static lomuveran_answer (*const of_draw)(size_t, const uint32_t *, size_t, uint16_t *, size_t) = lomuveran_shuffle;
+static lomuveran_answer (*const of_rank)(size_t, size_t, uint16_t *, size_t, uint8_t *, size_t, uint16_t *, size_t) =
+    lomuveran_ranked_order;
 static lomuveran_answer (*const of_write)(size_t, const uint8_t *, size_t, uint8_t *, size_t) = lomuveran_write_sheet;
 static lomuveran_answer (*const of_read)(const uint8_t *, size_t, uint8_t *, size_t) = lomuveran_read_sheet;
 static lomuveran_number (*const of_number)(const uint8_t *, size_t, size_t) = lomuveran_read_number;
@@ -173,6 +175,63 @@ static void charts(void) {
         const int64_t six[6] = {(int64_t)is.count, is.least, is.greatest, is.sum, is.mean, is.remainder};
         ANSWER(is.answer, cases[i].number, 0, 0);
         for (k = 0; k < 6; k++) SAME((size_t)six[k], (size_t)cases[i].six[k]);
+    }
+}
+
+/* ---- listed orders: as many as there must be, each above the one before and a permutation, with the bits and the log of set */
+
+static const size_t orders[7] = {1, 1, 2, 6, 24, 120, 720};
+
+/* whether the first list of n entries stands before the second in a dictionary */
+static int before(const uint16_t *first, const uint16_t *second, size_t n) {
+    size_t i = 0;
+    while (i < n && first[i] == second[i]) i++;
+    return i < n && first[i] < second[i];
+}
+
+struct lent {
+    uint16_t order[7], log[150];
+    uint8_t bits[14];
+};
+
+static void listing(void) {
+    struct lent is, must;
+    uint16_t last[7] = {0};
+    size_t n, r, w, words;
+    for (n = 0; n <= LOMUVERAN_MAX_LISTED; n++) {
+        w = of_count[0](n).count;
+        words = 3 * of_count[1](n).count;
+        for (r = 0; r < orders[n]; r++) {
+            memset(&is, 0xee, sizeof is);
+            must = is;
+            ANSWER(of_rank(n, r, is.order, n + r % 2, is.bits, w, is.log, words + r % 2), 0, 0, words / 3);
+            memcpy(must.order, is.order, 2 * n);
+            ANSWER(of_set(is.order, n, must.bits, w, must.log, words), 0, 0, words / 3); /* so it is a permutation */
+            alike(&is, &must, sizeof is, "a listed order and all around it", __LINE__);
+            if (r > 0) SAME(before(last, is.order, n), 1);
+            memcpy(last, is.order, sizeof last);
+        }
+    }
+}
+
+/* good and bad numbers for each question, all with all: the first no counts. No number is taken by its low bits */
+static void not_listed(void) {
+    static const size_t ns[4] = {3, 7, 1025, MOST}, rs[4] = {5, 6, 65536, MOST};
+    static const size_t lens[4] = {3, 7, 2, 0}, counts[4] = {3, 2, 4, 14}, rooms[4] = {33, 150, 32, 0};
+    struct lent is, was;
+    size_t i, n, r, len, count, room, number;
+    memset(&was, 0xee, sizeof was);
+    for (i = 0; i < 1024; i++) {
+        n = ns[i % 4], r = rs[i / 4 % 4], len = lens[i / 16 % 4], count = counts[i / 64 % 4], room = rooms[i / 256];
+        number = n != 3       ? LOMUVERAN_NOT_LISTED
+                 : r != 5     ? LOMUVERAN_PLACES
+                 : len < 3    ? LOMUVERAN_OUTPUT
+                 : count != 3 ? LOMUVERAN_BIT_COUNT
+                 : room < 33  ? LOMUVERAN_LOG
+                              : LOMUVERAN_ACCEPTED;
+        is = was;
+        ANSWER(of_rank(n, r, is.order, len, is.bits, count, is.log, room), number, 0, number ? 0 : 11);
+        same(memcmp(&is, &was, sizeof is) == 0, number != 0, "nothing is written where it is refused", __LINE__);
     }
 }
 
@@ -319,6 +378,8 @@ int main(void) {
     mixing();
     refusals();
     charts();
+    listing();
+    not_listed();
     for (i = 0; i < 1026; i++) large[i] = kept[i] = (uint16_t)(i < 1025 ? 1024 - i : 77);
     permutations();
     bad_records();

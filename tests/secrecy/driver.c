@@ -1,6 +1,7 @@
 // Accepted calls of the library with their secrets marked undefined, to be run under valgrind (see `run`).
-//   driver set|mix|return|chart N,N.. WIDTH,WIDTH.. SEED
-// Secret are the order's entries (set), the bits and the bytes of the blocks (mix, return), the bytes of the blocks (chart).
+//   driver set|mix|return|chart|rank N,N.. WIDTH,WIDTH.. SEED
+// Secret are the order's entries (set), the bits and the bytes of the blocks (mix, return), the bytes of the blocks (chart), the
+// number of the order and so all that comes of it (rank).
 // SEED 0: the order that moves nothing, or bits and bytes 0; 1: the reverse order, or bits and bytes 1; else drawn.
 #include "lomuveran.h"
 #include <stdio.h>
@@ -28,6 +29,10 @@ static size_t depends(void *p, size_t bytes) { // bytes of p that depend on a se
         for (size_t i = 0; i < bytes; i++) c += v[i] != 0;
     show(p, bytes), free(v);
     return c;
+}
+static int tracked(void) { // by memcheck, and not by lackey
+    char c = 0, v;
+    return VALGRIND_GET_VBITS(&c, &v, 1) == 1;
 }
 // A trace is compared between these two.
 __attribute__((noinline)) void trace_begins(void) { __asm__ volatile(""); }
@@ -83,11 +88,38 @@ static void chart(size_t n, size_t width, size_t seed) {
     free(blocks);
 }
 
+// an order of the list by its number, which is found again from the order; its bits carry out the order
+static void rank(size_t n, size_t seed) {
+    size_t w = switches(n), words = 3 * entries(n), orders = 1, found = 0, r;
+    uint16_t *order = room(2 * n), *log = room(2 * words), *log2 = room(6 * w);
+    uint8_t *bits = room(w), *blocks = room(n);
+    state = seed;
+    for (size_t i = 2; i <= n; i++) orders *= i;
+    r = seed > 1 ? drawn(orders) : seed * (orders - 1);
+    hide(&r, sizeof r);
+    trace_begins();
+    lomuveran_answer a = lomuveran_ranked_order(n, r, order, n, bits, w, log, words);
+    trace_ends();
+    in_log += depends(log, 2 * words), in_answer += depends(&a, sizeof a);
+    wrong += (depends(order, 2 * n) == 0 || depends(bits, w) == 0) && n > 1 && tracked(); // or r was no secret
+    show(order, 2 * n), show(bits, w), show(&r, sizeof r);
+    for (size_t i = 0; i < n; i++) {
+        blocks[i] = (uint8_t)i, found *= n - i;
+        for (size_t j = i + 1; j < n; j++) found += order[j] < order[i];
+    }
+    wrong += a.number != 0 || 3 * a.count != words || found != r;
+    lomuveran_apply(n, 1, blocks, n, bits, w, log2, 3 * w);
+    for (size_t i = 0; i < n; i++) wrong += blocks[order[i]] != i;
+    calls++, asked++;
+    free(order), free(log), free(log2), free(bits), free(blocks);
+}
+
 int main(int argc, char **argv) {
     if (argc != 5) return 2;
     for (char *n = argv[2]; n; n = strchr(n, ',') ? strchr(n, ',') + 1 : 0)
         for (char *w = argv[3]; w; w = strchr(w, ',') ? strchr(w, ',') + 1 : 0)
             if (argv[1][0] == 'c') chart(strtoul(n, 0, 10), strtoul(w, 0, 10), strtoul(argv[4], 0, 10));
+            else if (!strcmp(argv[1], "rank")) rank(strtoul(n, 0, 10), strtoul(argv[4], 0, 10));
             else one(argv[1][0], strtoul(n, 0, 10), strtoul(w, 0, 10), strtoul(argv[4], 0, 10));
     printf("%zu calls, %zu with secrets, %zu wrong, %zu log bytes and %zu answer bytes from a secret\n", calls, asked, wrong,
            in_log, in_answer);

@@ -16,6 +16,7 @@ ghost use Rattle.control.specs.Calls.{setCall};
 ghost use Rattle.counts.specs.Counts.{W, E};
 ghost use Rattle.numbers.specs.Numbers.{numberAt};
 ghost use Rattle.permutation_record.specs.Records as records;
+ghost use Rattle.ranks.specs.Calls.{ranked, rankedCall};
 ghost use Rattle.shuffle.specs.Shuffled.{shuffleCall};
 ghost use Rattle.capi_values.specs.Crossing.{answerIn, numberIn, reportIn, toldIn, told, lending, recordIn, lent, counted};
 
@@ -64,6 +65,21 @@ pub extern "C" fn lomuveran_shuffle(n: usize, words: &[u32], out: &mut [u16]) ->
     ensures { λ r. ⌜ outcome (answerIn r) (now (out .exit)) ≡ shuffleCall n (now (words .entry)) (now (out .entry)) ⌝ }
 {
     capi_values::tell(shuffle::shuffle(n, words, out))
+}
+
+// 02, F-3: the r-th order of n places, with its setting.
+#[no_mangle]
+pub extern "C" fn lomuveran_ranked_order(
+    n: usize,
+    r: usize,
+    order: &mut [u16],
+    bits: &mut [u8],
+    log: &mut [u16],
+) -> CAnswer
+    ensures { λ a. ⌜ ranked (answerIn a) (now (order .exit)) (now (bits .exit)) (now (log .exit))
+        ≡ rankedCall n r (now (order .entry)) (now (bits .entry)) (now (log .entry)) ⌝ }
+{
+    capi_values::tell(ranks::ranked_order(n, r, order, bits, log))
 }
 
 // ---- sheets
