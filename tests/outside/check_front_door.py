@@ -13,6 +13,7 @@ import tempfile
 import door as harness
 import door_trouble
 import rule
+import setter
 from door import MADE, Door, rng, same, sheet_of
 
 
@@ -120,6 +121,7 @@ def usage_lines(no):
     for args, line in (['mix'], 'mix WIDTH MONTH..'), (['mix', '6'], 'mix WIDTH MONTH..'), (['show'], 'show SHEET'), \
             (['show', 'a', 'b'], 'show SHEET'), (['return', '6', 'a', 'b'], 'return WIDTH MIXED SHEET OUT'), \
             (['return', '6', 'a', 'b', 'c', 'd'], 'return WIDTH MIXED SHEET OUT'), (['settings'], 'settings ORDER'), \
+            (['orders'], 'orders LENGTH'), (['orders', '1', '2'], 'orders LENGTH'), \
             (['chart'], 'chart BLOCKS'), (['chart', 'a', 'b'], 'chart BLOCKS'), \
             (['card'], 'card SHEET'), (['type', 'a'], 'type CARD SHEET'), (['demo', 'a'], 'demo'):
         no(2, 'usage: lomuveran ' + line, *args)
@@ -161,6 +163,16 @@ def orders(door):
             (b'\x02\xac\x02\0', 'entry 0, counted from 0, is 300, which is not below 2 (question 6)')]:
         door.fresh(order=order)
         door.call(1, 'settings', 'order', files={'order': 0o644}, err='order: ' + why, out='')
+
+
+def listings(door):
+    door.fresh()
+    for length in '0', '1', '2', '3', '4', '5', '6', '006', '00':
+        same(door.call(0, 'orders', length, files={}, err=''), setter.listing(int(length)), f'orders {length}')
+    for length in '7', '07', '8', '10', '16', '1024', '9' * 40:
+        door.call(1, 'orders', length, files={}, err=f'length {length}: only orders of at most 6 places are listed (question 17)', out='')
+    for length in '', 'x', '-1', ' 3', '3x', '+3', '0x3', '3\n', '\u0663':
+        door.call(2, 'orders', length, files={}, err=f"LENGTH is the number of places of an order, and not '{length}'", out='')
 
 
 def charts(door):
@@ -287,7 +299,8 @@ def demo(door):
 
 def main():
     root, shells = sys.argv[1], sys.argv[2:]
-    tried = [whole_job, names, by_links, refusals, damaged_sheets, orders, charts, several, cards, typing_errors, demo, *door_trouble.TRIED]
+    tried = [whole_job, names, by_links, refusals, damaged_sheets, orders, listings, charts, several, cards, typing_errors, demo,
+             *door_trouble.TRIED]
     for shell in shells:
         with tempfile.TemporaryDirectory() as scratch:
             os.chmod(scratch, 0o755)

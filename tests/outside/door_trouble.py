@@ -138,7 +138,7 @@ def deaf_reader(door):
 def full_outputs(door):
     door.fresh(month=b'abcdef', sheet=sheet_of(9), order=b'\x02\1\0')
     at_first = door.files()
-    for args in ('mix', '2', 'month'), ('show', 'sheet'), ('settings', 'order'), ('chart', 'month'), ('card', 'sheet'):
+    for args in ('mix', '2', 'month'), ('show', 'sheet'), ('settings', 'order'), ('orders', '3'), ('chart', 'month'), ('card', 'sheet'):
         with open('/dev/full', 'wb') as full:
             door.call(3, *args, files=at_first, stdout=full)
 
@@ -213,13 +213,14 @@ def programs_that_fail(door):
         door.put_back(program)
 
 
-def chart_that_fails(door):
-    for text, words in (': nothing\n', 'month: a program ended before its work was done'), ('REAL; kill -9 $$\n', None), \
-            ('echo "chart: standard input: Input/output error" >&2\n', 'chart: standard input: Input/output error'):
-        door.put_aside('chart', text)
-        door.fresh(month=b'abcdef')
-        door.call(3, 'chart', 'month', files={'month': 0o644}, err=words, out='')
-        door.put_back('chart')
+def printing_that_fails(door):
+    for program, args, name in ('chart', ('chart', 'month'), 'month'), ('list', ('orders', '3'), 'length 3'):
+        for text, words in (': nothing\n', f'{name}: a program ended before its work was done'), ('REAL; kill -9 $$\n', None), \
+                (f'echo "{program}: standard input: Input/output error" >&2\n', f'{program}: standard input: Input/output error'):
+            door.put_aside(program, text)
+            door.fresh(month=b'abcdef')
+            door.call(3, *args, files={'month': 0o644}, err=words, out='')
+            door.put_back(program)
 
 
 # ---- the build
@@ -232,7 +233,7 @@ echo "rt: answers proved (3 s)"
 sleep 1
 echo "rt: counts proved (8 s)" >&2
 [ -z "${RT_FAILS:-}" ] || exit 1
-for p in draw sheet mix unmix show settings chart; do cp -p 'BIN'/$p target/bin/$p; done
+for p in draw sheet mix unmix show settings chart list; do cp -p 'BIN'/$p target/bin/$p; done
 '''
 
 
@@ -261,7 +262,7 @@ def build(door):
     errs = [process.communicate()[1] for process in running]
     same(sorted(p.returncode for p in running), [0, 0, 3], f'two at once that build {errs}')
     with open(log) as f:
-        same(f.read(), 'rt check draw sheet mix unmix show settings chart\n', 'built once')
+        same(f.read(), 'rt check draw sheet mix unmix show settings chart list\n', 'built once')
     same(os.path.exists(door.home + '/target/building'), False, 'the mark of the build')
     same(stat.S_IMODE(os.stat(door.bin).st_mode) & 0o055, 0o055, 'the programs are for everybody')
     for name in away, tools:
@@ -269,4 +270,5 @@ def build(door):
     os.remove(door.home + '/crates.txt')
 
 
-TRIED = [existing, at_once, signals, deaf_reader, full_outputs, full_disk, folders_of_others, programs_that_fail, chart_that_fails, build]
+TRIED = [existing, at_once, signals, deaf_reader, full_outputs, full_disk, folders_of_others, programs_that_fail, printing_that_fails,
+         build]

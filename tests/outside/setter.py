@@ -1,6 +1,7 @@
 """The house setting of an order, from document 01's 'The network' and 'The house setting' alone: ring after ring is walked, where the
 library goes through its six steps.
 """
+import itertools
 
 
 def setting(order):
@@ -42,3 +43,9 @@ def entries(m):
         return [0, 0, 2][m]
     k = (m + 1) // 2
     return 3 * k + 3 + entries(k) + entries(m - k)
+
+
+def listing(n):
+    """A line for each order of n places, in dictionary order (which is that of itertools): its entries, its setting or -."""
+    lines = [(','.join(map(str, order)), ''.join(map(str, setting(order)))) for order in itertools.permutations(range(n))]
+    return ''.join(f'{order} {bits or "-"}\n' for order, bits in lines)
