@@ -1,21 +1,7 @@
-/* Times the calls on permutations of a library, or of two by turns: in each round of a call it runs a batch in each of the four
- * objects of each library, and a round's time is their mean. A time is the median of the rounds, a ratio the median of each
- * round's own ratio. The second library is one whose records carry no number. `once` runs one call ten times, for a counter of
- * instructions. See bench/permutations. */
-#define _GNU_SOURCE
-#include "lomuveran.h"
+/* Times the calls on permutations of a library, or of two by turns. The second library is one whose records carry no number.
+ * `once` runs one call ten times, for a counter of instructions. See bench/permutations. */
+#include "turns.h"
 
-#include <dlfcn.h>
-#include <stdio.h>
-#include <stdlib.h>
-#include <string.h>
-#include <time.h>
-
-#define ROUNDS 61
-#define BATCH 300e3 /* nanoseconds */
-#ifndef OBJECTS
-#define OBJECTS 4
-#endif
 #define CALLS 5
 
 static const char *const names[CALLS] = {"fixed_points", "exchange", "inverse", "combine", "from_list"};
@@ -27,13 +13,6 @@ struct work {
     size_t n, fixed, second_fixed, k;
     uint16_t entries[1024], second[1024];
 };
-
-static void check(int yes, const char *what) {
-    if (!yes) {
-        fprintf(stderr, "permutations: %s\n", what);
-        exit(2);
-    }
-}
 
 /* ---- each call, now and before */
 
@@ -94,35 +73,13 @@ static call *const calls[2][CALLS] = {{asking, exchange, inverse, combine, from_
 
 /* ---- times */
 
-static double clock_ns(void) {
-    struct timespec t;
-    clock_gettime(CLOCK_MONOTONIC, &t);
-    return (double)t.tv_sec * 1e9 + (double)t.tv_nsec;
-}
+static struct work works[2];
+static int called;
 
-static double batch(struct work *w, int side, int c, size_t count) {
-    double all = 0;
-    size_t i;
-    int object;
-    for (object = 0; object < OBJECTS; object++) {
-        double begin = clock_ns();
-        w->f = loaded[side][object][c];
-        for (i = 0; i < count; i++) calls[side][c](w);
-        all += clock_ns() - begin;
-    }
-    return all / (OBJECTS * (double)count);
-}
-
-static int by_size(const void *a, const void *b) {
-    double x = *(const double *)a, y = *(const double *)b;
-    return (x > y) - (x < y);
-}
-
-static double median(const double *times) {
-    double sorted[ROUNDS];
-    memcpy(sorted, times, sizeof sorted);
-    qsort(sorted, ROUNDS, sizeof *sorted, by_size);
-    return sorted[ROUNDS / 2];
+static void run(int side, int object, size_t count) {
+    struct work *w = &works[side];
+    w->f = loaded[side][object][called];
+    while (count--) calls[side][called](w);
 }
 
 static size_t at_home(const uint16_t *list, size_t n) {
@@ -131,96 +88,66 @@ static size_t at_home(const uint16_t *list, size_t n) {
     return count;
 }
 
-/* two orders that look random */
 static void fill(struct work *w, size_t n) {
-    uint64_t seed = 7;
-    size_t i, j, list;
     memset(w, 0, sizeof *w);
     w->n = n;
-    for (list = 0; list < 2; list++) {
-        uint16_t *e = list ? w->second : w->entries;
-        for (i = 0; i < n; i++) e[i] = (uint16_t)i;
-        for (i = 0; i < n; i++) {
-            uint16_t x = e[i];
-            seed = seed * 6364136223846793005u + 1442695040888963407u;
-            j = i + (size_t)(seed >> 33) % (n - i);
-            e[i] = e[j];
-            e[j] = x;
-        }
-    }
+    drawn = 7;
+    shuffled(w->entries, n);
+    shuffled(w->second, n);
     w->fixed = at_home(w->entries, n);
     w->second_fixed = at_home(w->second, n);
 }
 
 /* both libraries do the same, and every number is the true one */
-static void compare(struct work *w, int sides) {
-    int c, side, k;
+static void compare(int sides) {
+    struct work *w = works;
+    int side, k;
     for (k = 0; k < 10; k++) {
-        for (c = 0; c < CALLS; c++) {
-            for (side = 0; side < sides; side++) batch(w + side, side, c, 1);
+        for (called = 0; called < CALLS; called++) {
+            for (side = 0; side < sides; side++) batch(run, side, 1);
             check(w[0].fixed == at_home(w[0].entries, w[0].n), "the number is not the true one");
             check(sides == 1 || !memcmp(w[0].entries, w[1].entries, sizeof w[0].entries), "the libraries differ");
         }
     }
 }
 
-static void measure(int c, size_t n, int sides) {
-    static struct work w[2];
-    double times[2][ROUNDS], ratio[ROUNDS];
-    size_t count[2];
-    int k, round;
-    fill(&w[0], n);
-    w[1] = w[0];
-    compare(w, sides);
-    for (k = 0; k < sides; k++) count[k] = 1 + (size_t)(BATCH / batch(w + k, k, c, 20));
-    for (round = 0; round < ROUNDS; round++) {
-        for (k = 0; k < sides; k++) {
-            int side = (k + round) % sides;
-            times[side][round] = batch(w + side, side, c, count[side]);
-        }
-        if (sides > 1) ratio[round] = times[0][round] / times[1][round];
-    }
-    printf("| %s | %zu | %.*f |", names[c], n, median(times[0]) < 100, median(times[0]));
-    if (sides > 1) printf(" %.*f | %.3f |", median(times[1]) < 100, median(times[1]), median(ratio));
-    printf("\n");
-}
-
 static void load(const char *from, void *to[OBJECTS][CALLS]) {
-    char name[4096];
+    char name[64];
     int object, c;
     for (object = 0; object < OBJECTS; object++) {
-        snprintf(name, sizeof name, "%s.%d.so", from, object + 1);
-        void *library = dlopen(name, RTLD_NOW | RTLD_LOCAL);
-        check(library != NULL, name);
         for (c = 0; c < CALLS; c++) {
-            snprintf(name, sizeof name, "lomuveran_permutation_%s", names[c]);
-            to[object][c] = dlsym(library, name);
-            check(to[object][c] != NULL, name);
+            snprintf(name, sizeof name, "permutation_%s", names[c]);
+            to[object][c] = find(from, object, name);
         }
     }
 }
 
 /* once now|before OBJECTS CALL PLACES */
 static int once(char **argv) {
-    static struct work w;
-    int side = !strcmp(argv[2], "before"), c = 0, k;
-    while (c < CALLS && strcmp(names[c], argv[4])) c++;
-    check(c < CALLS, "which call?");
+    int side = !strcmp(argv[2], "before");
+    while (called < CALLS && strcmp(names[called], argv[4])) called++;
+    check(called < CALLS, "which call?");
     load(argv[3], loaded[side]);
-    fill(&w, strtoul(argv[5], NULL, 10));
-    w.f = loaded[side][0][c];
-    for (k = 0; k < 10; k++) calls[side][c](&w);
+    fill(&works[side], strtoul(argv[5], NULL, 10));
+    run(side, 0, 10);
     return 0;
 }
 
 int main(int argc, char **argv) {
-    static const size_t sizes[3] = {16, 128, 1024};
+    static const char *const sizes[3] = {"16", "128", "1024"};
     int c, k;
     if (argc == 6) return once(argv);
     check(argc == 2 || argc == 3, "which objects?");
     for (k = 1; k < argc; k++) load(argv[k], loaded[k - 1]);
-    printf("| call | places | ns |%s\n|---|---|---|%s\n", argc == 3 ? " before, ns | ratio |" : "", argc == 3 ? "---|---|" : "");
-    for (c = 0; c < CALLS; c++)
-        for (k = 0; k < 3; k++) measure(c, sizes[k], argc - 1);
+    heading(argc - 1);
+    for (c = 0; c < CALLS; c++) {
+        for (k = 0; k < 3; k++) {
+            fill(&works[0], strtoul(sizes[k], NULL, 10));
+            works[1] = works[0];
+            compare(argc - 1);
+            called = c;
+            measure(names[c], sizes[k], argc - 1, run);
+        }
+    }
     return 0;
 }
