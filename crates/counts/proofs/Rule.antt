@@ -42,6 +42,10 @@ module _ (rule : ℕ → ℕ → ℕ → ℕ) where
       enough n (suc n) n (omega arith) (omega arith) ∙ more n n h
       ∙ rw (enough n (up n) (up n) (omega arith) (omega arith), enough n (n - up n) (n - up n) (omega arith) (omega arith))
 
+-- from three places on the rule of E is a sum
+pub entry-sum : (n top bottom : ℕ) → 3 ≤ n → entryRule n top bottom ≡ 3 * up n + 3 + top + bottom
+entry-sum n top bottom h = rw (ne-eqb n 2 (λ e. omega arith), entryRule) (omega arith)
+
 pub W-none : (n : ℕ) → n < 2 → W n ≡ 0
 unfolding W
 W-none n h = none switchRule n n h
@@ -60,4 +64,4 @@ E-two = refl
 
 pub E-more : (n : ℕ) → 3 ≤ n → E n ≡ 3 * up n + 3 + E (up n) + E (n - up n)
 unfolding E
-E-more n h = halved entryRule n (omega arith) ∙ rw (ne-eqb n 2 (λ e. omega arith), entryRule)
+E-more n h = halved entryRule n (omega arith) ∙ entry-sum n (E (up n)) (E (n - up n)) h

@@ -6,13 +6,22 @@ use Rattle.check_counts.proofs.compare.Statement.{statement}
 use Rattle.check_counts.proofs.compare.Tie as tie
 
 abbrev Inv-loop : tie.InvT-loop
-Inv-loop n₀ switches₀ entries₀ t4 t5 n switches entries = (n ≤ 1025) × (switches ≤ n) × (entries ≤ n)
+Inv-loop filled₀ n₀ switches₀ entries₀ t5 t6 filled n switches entries = (n ≤ 1025) × (switches ≤ n) × (entries ≤ n)
 
 abbrev μ-loop : tie.MeasureT-loop
-μ-loop n₀ switches₀ entries₀ t4 t5 n switches entries = 1025 - n
+μ-loop filled₀ n₀ switches₀ entries₀ t5 t6 filled n switches entries = 1025 - n
 
 loop-holds : tie.Need-loop-holds Inv-loop μ-loop
 loop-holds c = search needs
+
+next-entries-requires : tie.Need-next-entries-requires Inv-loop μ-loop
+next-entries-requires c κs = search needs
+
+mul-filled : tie.Need-mul-filled Inv-loop μ-loop
+mul-filled c = search needs
+
+array-write-filled : tie.Need-array-write-filled Inv-loop μ-loop
+array-write-filled c = search needs
 
 same-switches-requires : tie.Need-same-switches-requires Inv-loop μ-loop
 same-switches-requires c κs = search needs
@@ -20,8 +29,11 @@ same-switches-requires c κs = search needs
 add-switches : tie.Need-add-switches Inv-loop μ-loop
 add-switches c = search needs
 
-same-entries-requires : tie.Need-same-entries-requires Inv-loop μ-loop
-same-entries-requires c κs = search needs
+entries-requires : tie.Need-entries-requires Inv-loop μ-loop
+entries-requires c κs = search needs
+
+same-requires : tie.Need-same-requires Inv-loop μ-loop
+same-requires c κs = search needs
 
 add-entries : tie.Need-add-entries Inv-loop μ-loop
 add-entries c = search needs
@@ -57,9 +69,13 @@ compare-spec =
     Inv-loop
     μ-loop
     loop-holds
+    next-entries-requires
+    mul-filled
+    array-write-filled
     same-switches-requires
     add-switches
-    same-entries-requires
+    entries-requires
+    same-requires
     add-entries
     add-n
     loop-less

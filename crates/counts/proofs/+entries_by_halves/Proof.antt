@@ -47,7 +47,7 @@ entries-by-halves-returns-2 : (t : ℕ) → entries-by-halves-lts.Need-returns-2
   entries-by-halves-below t,
   entries-by-halves.Post,
 ) (entries-by-halves-at t) entries-by-halves.Post
-entries-by-halves-returns-2 t c = rw (c .if2 .taken) (sym E-two)
+entries-by-halves-returns-2 t c = rw (c .if2 .taken) (omega (arith, E-two))
 
 entries-by-halves-add-pairs : (t : ℕ) → entries-by-halves-lts.Need-add-pairs (
   entries-by-halves-below t,

@@ -1,9 +1,12 @@
--- `counts::switches` meets its contract: the table is held against the rule by one test, which antt computes.
+-- `counts::switches` meets its contract: the table is held against the rule by one test, which antt computes, and no count is
+-- larger than that of 1,024 places.
 -- Assumes nothing.
-use mathlib.Core.Path.{refl}
+use mathlib.Core.Path.{_≡_, refl}
+use native.Mathlib.Omega.{arith}
 use borrow.Author.Needs.{needs}
-use Rattle.counts.specs.Counts.{W, switchRule}
+use Rattle.counts.specs.Counts.{W}
 use Rattle.counts.proofs.Table.{holds}
+use Rattle.counts.proofs.Most.{switches-few}
 use Rattle.counts.proofs.switches.Statement.{statement}
 use Rattle.counts.proofs.switches.Tie as tie
 
@@ -11,8 +14,9 @@ read-table-requires : tie.Need-read-table-requires
 read-table-requires c κs = search needs
 
 returns : tie.Need-returns
-unfolding W
-returns c = holds switchRule 9217 (c .read-table .ensures) refl (search needs)
+returns c =
+    let count = holds (c .read-table .ensures) refl (search needs) in
+    (count, rw count (switches-few (c .before .before .args .n) (search needs)))
 
 pub switches-spec : {M : Type 1} → statement M
 switches-spec = tie.close (tie.spec read-table-requires returns)
