@@ -1,6 +1,5 @@
 -- The largest counts: those of 1,024 places.
 -- Assumes nothing.
-use mathlib.Core.Path.{_≡_}
 use Prim.Native.Nat.{ℕ, _≤_}
 use native.Mathlib.Omega.{arith}
 use Rattle.counts.specs.Counts.{W, E}

@@ -94,6 +94,15 @@ entries-by-halves-add-result : (t : ℕ) → entries-by-halves-lts.Need-add-resu
 ) (entries-by-halves-at t) entries-by-halves.Post
 entries-by-halves-add-result t c = omega arith
 
+-- stands before the sums, since it says what is wrong with a rule that is not that of E
+entries-by-halves-returns-3 : (t : ℕ) → entries-by-halves-lts.Need-returns-3 (
+  entries-by-halves-below t,
+  entries-by-halves.Post,
+) (entries-by-halves-at t) entries-by-halves.Post
+entries-by-halves-returns-3 t c =
+    let n = c .before .before .before .before .args .n in
+    omega (arith, halves n (omega arith))
+
 entries-by-halves-add-result-2 : (t : ℕ) → entries-by-halves-lts.Need-add-result-2 (
   entries-by-halves-below t,
   entries-by-halves.Post,
@@ -109,14 +118,6 @@ entries-by-halves-add-result-3 : (t : ℕ) → entries-by-halves-lts.Need-add-re
 entries-by-halves-add-result-3 t c =
     let n = c .before .before .before .before .args .n in
     omega (arith, halves n (omega arith), E-small n (omega arith))
-
-entries-by-halves-returns-3 : (t : ℕ) → entries-by-halves-lts.Need-returns-3 (
-  entries-by-halves-below t,
-  entries-by-halves.Post,
-) (entries-by-halves-at t) entries-by-halves.Post
-entries-by-halves-returns-3 t c =
-    let n = c .before .before .before .before .args .n in
-    omega (arith, halves n (omega arith))
 
 pub +entries-by-halves-spec : {M : Type 1} → statement M
 +entries-by-halves-spec = close μ-entries-by-halves λ t. entries-by-halves-lts.spec (

@@ -1,10 +1,8 @@
 -- `counts::switches` meets its contract: the table is held against the rule by one test, which antt computes, and no count is
 -- larger than that of 1,024 places.
 -- Assumes nothing.
-use mathlib.Core.Path.{_≡_, refl}
-use native.Mathlib.Omega.{arith}
+use mathlib.Core.Path.{refl}
 use borrow.Author.Needs.{needs}
-use Rattle.counts.specs.Counts.{W}
 use Rattle.counts.proofs.Table.{holds}
 use Rattle.counts.proofs.Most.{switches-few}
 use Rattle.counts.proofs.switches.Statement.{statement}
