@@ -37,7 +37,7 @@ static void run(int side, int object, size_t count) {
     }
 }
 
-/* what no library is asked for */
+/* W or E by its rule: what a library answers is held against it */
 static size_t halved(size_t m, int of_entries) {
     size_t k = m - m / 2, own = of_entries ? m == 2 ? 2 : 3 * k + 3 : m - 1;
     return m < 2 ? 0 : own + halved(k, of_entries) + halved(m - k, of_entries);
@@ -77,7 +77,7 @@ static void line(int c, size_t places, size_t bytes) {
 
 int main(int argc, char **argv) {
     static const size_t places[3] = {16, 128, 1024}, widths[4] = {1, 6, 64, 256};
-    int c, k, j;
+    int c, k, j, lines = 0;
     if (argc == 6 && !strcmp(argv[1], "once")) { /* once OBJECTS CALL PLACES WIDTH */
         load(argv[2], 0);
         while (called < CALLS && strcmp(names[called], argv[3])) called++;
@@ -91,6 +91,7 @@ int main(int argc, char **argv) {
     heading(2);
     for (c = 0; c < CALLS; c++)
         for (k = 0; k < 3 && (argc == 3 || !strcmp(argv[3], words[c])); k++)
-            for (j = 0; j < (c == MIX || c == RETURN ? 4 : 1); j++) line(c, places[k], widths[j]);
+            for (j = 0; j < (c == MIX || c == RETURN ? 4 : 1); j++, lines++) line(c, places[k], widths[j]);
+    check(lines > 0, "which call? set, mix, return or entries");
     return 0;
 }
