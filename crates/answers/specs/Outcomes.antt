@@ -17,6 +17,11 @@ abbrev pub bufferOf : Verdict → List ℕ → List ℕ → List ℕ
 bufferOf allYes words buffer = overlay buffer 0 words
 bufferOf (noAt q p) words buffer = buffer
 
+-- a number that stands beside the answer: 0 where the call is refused
+abbrev pub besideOf : Verdict → ℕ → ℕ
+besideOf allYes number = number
+besideOf (noAt q p) number = 0
+
 -- a call with one lent buffer to write
 pub record Outcome : Type 0 where
   pub answer : Answer

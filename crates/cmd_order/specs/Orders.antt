@@ -4,8 +4,8 @@ use mathlib.Core.List.{List, [], _∷_, _++_}
 use Prim.Native.Nat.{ℕ}
 use lib.Dec.{leb}
 use lib.ListN.{length}
-use Rattle.answers.specs.Questions.{Question, ask, askEach, Verdict, allYes, noAt, firstNo}
-use Rattle.answers.specs.Outcomes.{Outcome, settled}
+use Rattle.answers.specs.Questions.{Question, ask, askEach, Verdict, firstNo}
+use Rattle.answers.specs.Outcomes.{besideOf, Outcome, settled}
 use Rattle.counts.specs.Counts.{E}
 use Rattle.network.specs.Wiring.{paper}
 use Rattle.permutation.specs.Permutations.{goodEntry}
@@ -54,8 +54,7 @@ orderSetting input buffer = settled (firstNo (orderQuestions input)) (countIn in
 -- ---- beside the answer, the number of entries that the setter logged: 0 in a refusal
 
 abbrev pub entriesLogged : Verdict → ℕ → ℕ
-entriesLogged allYes n = E n
-entriesLogged (noAt q p) n = 0
+entriesLogged v n = besideOf v (E n)
 
 pub record Reported : Type 0 where
   pub outcome : Outcome
