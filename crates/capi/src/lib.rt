@@ -2,6 +2,7 @@
 // length. Each export makes one call of the crate that does the work, and its promise is that crate's own definition of the
 // call.
 use capi_values::CAnswer;
+use capi_values::CDrawn;
 use capi_values::CNumber;
 use capi_values::CRecord;
 use capi_values::CReport;
@@ -17,8 +18,8 @@ ghost use Rattle.counts.specs.Counts.{W, E};
 ghost use Rattle.numbers.specs.Numbers.{numberAt};
 ghost use Rattle.permutation_record.specs.Records as records;
 ghost use Rattle.ranks.specs.Calls.{ranked, rankedCall};
-ghost use Rattle.shuffle.specs.Shuffled.{shuffleCall};
-ghost use Rattle.capi_values.specs.Crossing.{answerIn, numberIn, reportIn, toldIn, told, lending, recordIn, lent, counted};
+ghost use Rattle.shuffle.specs.Shuffled.{drawn, shuffleCall};
+ghost use Rattle.capi_values.specs.Crossing.{answerIn, numberIn, drawnIn, reportIn, toldIn, told, lending, recordIn, lent, counted};
 
 // 01: set.
 #[no_mangle]
@@ -59,12 +60,12 @@ pub extern "C" fn lomuveran_apply_inverse(
     capi_values::tell(apply::apply_inverse(n, width, blocks, bits, log))
 }
 
-// 01: draw.
+// 01: draw; 02, F-5.
 #[no_mangle]
-pub extern "C" fn lomuveran_shuffle(n: usize, words: &[u32], out: &mut [u16]) -> CAnswer
-    ensures { λ r. ⌜ outcome (answerIn r) (now (out .exit)) ≡ shuffleCall n (now (words .entry)) (now (out .entry)) ⌝ }
+pub extern "C" fn lomuveran_shuffle(n: usize, words: &[u32], out: &mut [u16]) -> CDrawn
+    ensures { λ r. ⌜ drawn (drawnIn r) (now (out .exit)) ≡ shuffleCall n (now (words .entry)) (now (out .entry)) ⌝ }
 {
-    capi_values::tell(shuffle::shuffle(n, words, out))
+    capi_values::tell_drawn(shuffle::shuffle(n, words, out))
 }
 
 // 02, F-3: the r-th order of n places, with its setting.

@@ -20,6 +20,8 @@ use Rattle.numbers.specs.declared.ReadNumber.the-variants.{Number, Refused}
 use Rattle.permutation.specs.Permutations.{tabulate}
 use Rattle.permutation_record.specs.declared.Reply.{Reply}
 use Rattle.permutation.proofs.Tables.{tabulate-more}
+use Rattle.shuffle.specs.declared.Drawn.{Drawn}
+use Rattle.shuffle.specs.Shuffled.{Shuffled, drawn}
 use Rattle.capi_values.specs.Crossing.{counted, recordIn, Told, told, Lent, lending, spread, lent}
 
 -- ---- answers
@@ -34,6 +36,9 @@ module _ {given told : Answer} (same : told ≡ given) where
 
   pub crosses : {buffer : List ℕ} {o : Outcome} → outcome given buffer ≡ o → outcome told buffer ≡ o
   crosses {buffer} came = answer-crosses (λ a. outcome a buffer) came
+
+pub drawn-crosses : {given told : Drawn} → told ≡ given → {out : List ℕ} {o : Shuffled} → drawn given out ≡ o → drawn told out ≡ o
+drawn-crosses same {out} came = ap (λ (r : Drawn). drawn r out) same ∙ came
 
 module _ (count : ℕ → ℕ) (n : ℕ) where
   pub count-refused : 1024 < n → refusal 1 0 ≡ counted count n

@@ -14,8 +14,10 @@ use Rattle.numbers.specs.Numbers.{NumberAnswer}
 use Rattle.permutation.specs.Permutations.{tabulate}
 use Rattle.permutation_record.specs.declared.Permutation.{Permutation}
 use Rattle.permutation_record.specs.declared.Reply.{Reply}
+use Rattle.shuffle.specs.declared.Drawn.{Drawn}
 use Rattle.capi_values.specs.declared.CAnswer.{CAnswer}
 use Rattle.capi_values.specs.declared.CNumber.{CNumber}
+use Rattle.capi_values.specs.declared.CDrawn.{CDrawn}
 use Rattle.capi_values.specs.declared.CReport.{CReport}
 use Rattle.capi_values.specs.declared.CRecord.{CRecord}
 
@@ -28,6 +30,10 @@ answerIn r = record { number = r .number; place = r .place; count = r .count }
 -- the number reader's
 abbrev pub numberIn : CNumber → NumberAnswer
 numberIn r = record { answer = answerIn (r .answer); value = r .value; next = r .next }
+
+-- a draw's
+abbrev pub drawnIn : CDrawn → Drawn
+drawnIn r = record { answer = answerIn (r .answer); used = r .used }
 
 -- a gauge's report
 abbrev pub figuresIn : CReport → Figures

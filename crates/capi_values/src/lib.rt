@@ -1,13 +1,14 @@
-// What crosses between the calls for C (crate capi) and the crates that do the work: answers, the number reader's answer, a
-// gauge's report, and a permutation as its entries and its number.
+// What crosses between the calls for C (crate capi) and the crates that do the work: answers, the answers of the number reader
+// and of a draw, a gauge's report, and a permutation as its entries and its number.
 use gauges::GaugeReport;
 use numbers::ReadNumber;
 use permutation_record::Permutation;
 use permutation_record::Reply;
+use shuffle::Drawn;
 ghost use mathlib.Core.Path.{_≡_};
 ghost use lib.ListN.{length, getD};
 ghost use Rattle.numbers.specs.Reading.{meaning};
-ghost use Rattle.capi_values.specs.Crossing.{answerIn, numberIn, reportIn, toldIn, told, lending, recordIn, spread, lent};
+ghost use Rattle.capi_values.specs.Crossing.{answerIn, numberIn, drawnIn, reportIn, toldIn, told, lending, recordIn, spread, lent};
 
 // An answer as C lays it out.
 #[repr(C)]
@@ -50,6 +51,23 @@ pub fn tell_number(r: ReadNumber) -> CNumber
         answer,
         value,
         next,
+    }
+}
+
+// The answer of a draw, with the number of words used.
+#[repr(C)]
+pub struct CDrawn {
+    pub answer: CAnswer,
+    pub used: usize,
+}
+
+pub fn tell_drawn(r: Drawn) -> CDrawn
+    ensures { λ c. ⌜ drawnIn c ≡ r ⌝ }
+{
+    let answer = tell(r.answer);
+    CDrawn {
+        answer,
+        used: r.used,
     }
 }
 

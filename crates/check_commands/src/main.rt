@@ -1,5 +1,6 @@
 // The whole job through the calls of the programs: an order from words, its sheet, blocks mixed and put back. The mixed blocks
-// are compared with a direct scatter by the order, and those put back with the blocks at the start. Then each refusal.
+// are compared with a direct scatter by the order, and those put back with the blocks at the start. Then each refusal, and orders
+// drawn from chosen words.
 mod plain;
 
 use answers::Answer;
@@ -209,13 +210,60 @@ fn bad_draw(t: Tally, n: usize, words: &[u8], number: usize) -> Tally {
     tally::tallied(refused(t, drawn, number, 0), order_kept(&order))
 }
 
+// 70 words: so many that are skipped with three places left, and behind them 0s.
+fn skipped(count: usize) -> [u8; 280] {
+    let mut words = [0u8; 280];
+    let mut i = 0;
+    while i < 280 {
+        if i / 4 < count {
+            words[i] = 255;
+        }
+        i += 1;
+    }
+    words
+}
+
 fn bad_draws() -> Tally {
     let words = [1u8; 40];
     let a = bad_draw(tally::none(), 1025, &words, 1);
     let b = bad_draw(a, 10000, &words, 1);
-    let c = bad_draw(b, 11, &words, 16);
-    let d = bad_draw(c, 9, &words, 16);
-    bad_draw(d, 1, b"abc", 16)
+    let c = bad_draw(b, 11, &words, 18);
+    let d = bad_draw(c, 3, b"\xff\xff\xff\xff\x02\0\0\0\x01\0\0\0", 18);
+    let e = bad_draw(d, 3, &skipped(65), 18);
+    bad_draw(e, 1, b"abc", 18)
+}
+
+// ---- orders drawn
+
+fn is_order(made: &[u8; 2050], n: usize, order: &[u8]) -> bool {
+    is_part(made, n, order)
+}
+
+// Three places.
+fn drawn(t: Tally, words: &[u8], order: &[u8]) -> Tally {
+    let mut made = [7u8; 2050];
+    let answer = cmd_draw::draw_order(3, words, &mut made);
+    tally::tallied(accepted(t, answer), is_order(&made, answer.count, order))
+}
+
+// 01, case j; with its first word behind one that is skipped, and with a word left over; and with all the spare words skipped.
+fn check_drawn() -> Tally {
+    let a = drawn(
+        tally::none(),
+        b"\x02\0\0\0\x01\0\0\0\0\0\0\0",
+        b"\x03\x02\x00\x01",
+    );
+    let b = drawn(
+        a,
+        b"\xff\xff\xff\xff\x02\0\0\0\x01\0\0\0\0\0\0\0",
+        b"\x03\x02\x00\x01",
+    );
+    let c = drawn(
+        b,
+        b"\x02\0\0\0\x01\0\0\0\0\0\0\0\x09\x09\x09\x09",
+        b"\x03\x02\x00\x01",
+    );
+    drawn(c, &skipped(64), b"\x03\x00\x01\x02")
 }
 
 // ---- sheets shown, with texts made by another program
@@ -268,5 +316,6 @@ fn main() {
     tally::print(b"blocks refused", bad_blocks());
     tally::print(b"orders refused", bad_orders());
     tally::print(b"draws refused", bad_draws());
+    tally::print(b"orders drawn", check_drawn());
     tally::print(b"sheets shown", check_shown());
 }

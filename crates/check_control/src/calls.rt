@@ -50,8 +50,3 @@ pub(crate) fn mix(
 ) -> Answer {
     mix_part(n, width, blocks, bits, w, back)
 }
-
-pub(crate) fn draw(n: usize, words: &[u32], order: &mut [u16]) -> Answer {
-    let places = least(n, words.len());
-    shuffle::shuffle(n, &words[..places], order)
-}

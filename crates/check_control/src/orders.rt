@@ -33,7 +33,7 @@ fn words(c: u32, n: usize, random: bool) -> [u32; 1024] {
 
 pub(crate) fn order(c: u32, n: usize, random: bool) -> [u16; 1024] {
     let mut out = [0u16; 1024];
-    calls::draw(n, &words(c, n, random), &mut out);
+    shuffle::shuffle(n, &words(c, n, random), &mut out);
     out
 }
 

@@ -1,5 +1,6 @@
 // Chains of drawn calls: each starts from the fresh record and goes on from the record that the call before it gave. Beside it a
 // list is changed by the plain computations, and after each call the record is compared with one rebuilt from that list.
+use crate::draws;
 use crate::plain;
 use permutation_record::Permutation;
 use permutation_record::Reply;
@@ -34,9 +35,7 @@ fn order(list: &[u16; 1024], n: usize, x: u32) -> [u16; 1024]
     requires { ⌜ n ≤ 1024 ⌝ }
 {
     if x % 2 == 0 {
-        let words = tally::words(x);
-        let drawn = plain::shuffle(&words, n);
-        return plain::front(&drawn, n);
+        return draws::order(x, n);
     }
     plain::exchange(
         plain::inverse(list, n),

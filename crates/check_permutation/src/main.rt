@@ -1,6 +1,7 @@
 // Runs the permutation record and the shuffle against a second, plainly written computation, and prints how many
 // outcomes were compared and how many were equal.
 mod chains;
+mod draws;
 mod numbers;
 mod plain;
 mod refusals;
@@ -122,20 +123,13 @@ fn check_exchange(t: Tally, e: [u16; 1024], n: usize, i: usize, j: usize) -> Tal
     plain::accepted(t, r, n, plain::exchange(e, i, j))
 }
 
-// Shuffles of n places by pseudo-random words, and what they give under the calls.
+// Draws of n places, and two drawn orders under the calls.
 fn check_shuffle(t: Tally, n: usize, seed: u32) -> Tally
     requires { ⌜ n ≤ 1024 ⌝ }
 {
-    let words = tally::words(seed);
-    let mut out = [7u16; 1024];
-    let a = shuffle::shuffle(n, &words[..n], &mut out);
-    let right = plain::shuffle(&words, n);
-    let t1 = tally::tallied(t, plain::alike(&out, &right));
-    let t2 = tally::tallied(t1, plain::answered(a, 0, 0, n));
-    let e = plain::front(&right, n);
-    let other = tally::words(tally::next(seed));
-    let s = plain::shuffle(&other, n);
-    check_calls(check_list(t2, e, n), e, plain::front(&s, n), n)
+    let e = draws::order(seed, n);
+    let s = draws::order(tally::next(seed), n);
+    check_calls(check_list(draws::check_size(t, n, seed), e, n), e, s, n)
 }
 
 const SIZES: [usize; 12] = [7, 23, 127, 128, 255, 256, 257, 258, 259, 1000, 1023, 1024];
@@ -193,12 +187,23 @@ fn print_small() {
 
 fn print_drawn() {
     tally::print(
-        b"shuffles of up to 1024 places, and calls on them",
+        b"draws of up to 1024 places, and calls on them",
         check_shuffles(tally::none()),
     );
     tally::print(
         b"chains of 50 drawn calls on up to 1024 places",
         chains::all(tally::none()),
+    );
+}
+
+fn print_limits() {
+    tally::print(
+        b"words at the limits, and the largest ones",
+        draws::all(tally::none()),
+    );
+    tally::print(
+        b"the second way with words of 8 bits, 1 to 16 places left",
+        draws::model(tally::none()),
     );
 }
 
@@ -213,5 +218,6 @@ fn print_chosen() {
 fn main() {
     print_small();
     print_drawn();
+    print_limits();
     print_chosen();
 }

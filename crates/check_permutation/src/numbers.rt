@@ -1,6 +1,7 @@
 // The number that a record carries, of entries that stay home: true and false ones, under every call that takes a record.
 use crate::check_calls;
 use crate::check_exchange;
+use crate::draws;
 use crate::plain;
 use crate::refusals;
 use permutation_record::Permutation;
@@ -49,10 +50,9 @@ fn of_large(t: Tally, e: [u16; 1024]) -> Tally {
 }
 
 fn large(t: Tally) -> Tally {
-    let words = tally::words(1024);
     let t1 = of_large(t, plain::identity(1024));
     let t2 = of_large(t1, plain::rotation(1024));
-    of_large(t2, plain::shuffle(&words, 1024))
+    of_large(t2, draws::order(1024, 1024))
 }
 
 // ---- the asking of records that no other call takes

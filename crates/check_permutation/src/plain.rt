@@ -214,8 +214,8 @@ pub(crate) fn front(e: &[u16; 1024], n: usize) -> [u16; 1024]
     out
 }
 
-// 0 to n - 1, then 7s; then each place exchanged with one that is not before it.
-pub(crate) fn shuffle(words: &[u32; 1024], n: usize) -> [u16; 1024]
+// 0 to n - 1, then 7s.
+pub(crate) fn counted(n: usize) -> [u16; 1024]
     requires { ⌜ n ≤ 1024 ⌝ }
 {
     let mut out = [7u16; 1024];
@@ -223,12 +223,6 @@ pub(crate) fn shuffle(words: &[u32; 1024], n: usize) -> [u16; 1024]
     while k < n {
         out[k] = narrow(k);
         k += 1;
-    }
-    let mut i = 0;
-    while i < n {
-        let j = std::num::wrapping_add_usize(i, wider(words[i]) % (n - i));
-        out = exchange(out, i, j);
-        i += 1;
     }
     out
 }

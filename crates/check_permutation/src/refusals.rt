@@ -1,4 +1,5 @@
 // Every refusal, with its place and with what comes back.
+use crate::draws;
 use crate::plain;
 use permutation_record::Permutation;
 use permutation_record::Reply;
@@ -79,22 +80,21 @@ fn of_numbers(t: Tally) -> Tally {
     of_pair(t4, good(3), spoiled(4, 0, 0, 1), 6, 1024)
 }
 
-// A shuffle of n places from so many words into `room` entries: the answer, and nothing written.
+// A draw of n places from so many words into `room` entries: the answer, and nothing written.
 fn of_shuffle(t: Tally, n: usize, count: usize, room: usize, number: usize) -> Tally
     requires { ⌜ (count ≤ 1024) × (room ≤ 1024) ⌝ }
 {
     let words = tally::words(77);
     let mut out = [7u16; 1024];
-    let a = shuffle::shuffle(n, &words[..count], &mut out[..room]);
-    let t1 = tally::tallied(t, plain::answered(a, number, 0, 0));
-    tally::tallied(t1, plain::alike(&out, &[7u16; 1024]))
+    let d = shuffle::shuffle(n, &words[..count], &mut out[..room]);
+    draws::told(t, d, &out, number, 0, 0, &[7u16; 1024])
 }
 
 fn of_shuffles(t: Tally) -> Tally {
     let t1 = of_shuffle(t, 1025, 5, 4, 1);
-    let t2 = of_shuffle(t1, 5, 4, 4, 16);
-    let t3 = of_shuffle(t2, 5, 6, 5, 16);
-    let t4 = of_shuffle(t3, 5, 5, 4, 13);
+    let t2 = of_shuffle(t1, 5, 4, 4, 13);
+    let t3 = of_shuffle(t2, 5, 4, 5, 18);
+    let t4 = of_shuffle(t3, 1, 0, 1, 18);
     of_shuffle(t4, 1024, 1024, 1023, 13)
 }
 

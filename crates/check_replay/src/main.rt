@@ -15,7 +15,7 @@ fn check_order(t: Tally, n: usize, seed: u32) -> Tally
 {
     let words = tally::words(seed);
     let mut order = [0u16; 1024];
-    shuffle::shuffle(n, &words[..n], &mut order);
+    shuffle::shuffle(n, &words, &mut order);
     let w = counts::switches(n);
     if 9217 < w {
         return tally::tallied(t, false);

@@ -12,7 +12,7 @@ fn set(bits: &mut [u8], n: usize, w: usize, seed: u32)
     let words = tally::words(seed);
     let mut order = [0u16; 1024];
     let mut log = [0u16; entry_log::MOST_SET_WORDS];
-    shuffle::shuffle(n, &words[..n], &mut order);
+    shuffle::shuffle(n, &words, &mut order);
     control::control_bits(&order[..n], &mut bits[..w], &mut log);
 }
 

@@ -19,6 +19,7 @@ use Rattle.rows.specs.Rows.{numbersBytes, numbersQuestions, numbersAt, placePas
 use Rattle.sheets.specs.Sheet.{bitsNumber, fourteens, sheet}
 use Rattle.sheets.specs.Reading.{lowBits, bitsIn, allZero}
 use Rattle.sheets.specs.Calls.{writeQuestions, writeSheet, headQuestions, bitsFrom, bodyQuestions, readQuestions, readSheet, settingIn}
+use Rattle.shuffle_words.specs.Words.{chosen}
 use Rattle.shuffle.specs.Shuffled.{stepped, shuffleCall}
 use Rattle.apply_questions.specs.Questions.{applyQuestions}
 use Rattle.apply.specs.Calls.{applyCall, inverseCall}
@@ -26,5 +27,5 @@ use Rattle.control.specs.Calls.{setCall}
 use Rattle.claims.specs.Month.{runCase, expected, cases}
 
 pub month : map runCase cases ≡ map expected cases
-unfolding cases map firstBadFrom overlay W E byHalves network networkIn switchCount switch layer layerBack part joined forward backward cut bytesOf moved movedBack words layerEntries switches applyEntries inverseEntries howMany goodEntry tabulate look seek store each act step1 step2 step3 step4 step5 step6 rounds inputEntries entriesOf setEntries subnetworks runEntry runEntries runSet numberBytes numberQuestions numberAt bitsNumber fourteens numbersBytes sheet numbersQuestions numbersAt placePast lowBits bitsIn allZero writeQuestions writeSheet headQuestions bitsFrom bodyQuestions readQuestions readSheet settingIn stepped shuffleCall applyQuestions applyCall inverseCall setCall
+unfolding cases map firstBadFrom overlay W E byHalves network networkIn switchCount switch layer layerBack part joined forward backward cut bytesOf moved movedBack words layerEntries switches applyEntries inverseEntries howMany goodEntry tabulate look seek store each act step1 step2 step3 step4 step5 step6 rounds inputEntries entriesOf setEntries subnetworks runEntry runEntries runSet numberBytes numberQuestions numberAt bitsNumber fourteens numbersBytes sheet numbersQuestions numbersAt placePast lowBits bitsIn allZero writeQuestions writeSheet headQuestions bitsFrom bodyQuestions readQuestions readSheet settingIn chosen stepped shuffleCall applyQuestions applyCall inverseCall setCall
 month = refl

@@ -1,13 +1,14 @@
 -- THE JOB'S THEOREM: what draw writes, sheet takes; what sheet writes, mix and unmix take; and the blocks go where the order
 -- says, and back.
 -- Assumes nothing.
-use mathlib.Core.Path.{_≡_, ap, _∙_}
+use mathlib.Core.Path.{_≡_, sym, ap, _∙_}
+use mathlib.Core.Bool.{true}
 use mathlib.Core.List.{List, [], _∷_}
-use Prim.Native.Nat.{ℕ, _*_, _/_, _≤_}
+use Prim.Native.Nat.{ℕ, _+_, _-_, _*_, _/_, _^_, _≤_, _<_, min}
 use native.Mathlib.Omega.{arith}
-use borrow.Author.Tests.{le-leb, eq-eqb, eqb-true}
+use borrow.Author.Tests.{le-leb, eqb-true}
 use lib.Dec.{eqb}
-use lib.ListN.{length, take}
+use lib.ListN.{length}
 use Rattle.answers.specs.Answers.{accepted}
 use Rattle.answers.specs.Buffers.{overlay}
 use Rattle.answers.specs.Outcomes.{Outcome, outcome}
@@ -19,9 +20,11 @@ use Rattle.network.specs.Wiring.{paper}
 use Rattle.network.proofs.Paper.{paper-lawful}
 use Rattle.permutation.specs.Permutations.{IsPermutation, firstBadEntry}
 use Rattle.permutation.proofs.Permutations.{passes-permutation}
-use Rattle.permutation.proofs.Tables.{length-tabulate}
-use Rattle.shuffle.specs.Shuffled.{shuffled}
-use Rattle.shuffle.proofs.Steps.{shuffled-permutation}
+use Rattle.permutation.proofs.Tables.{length-tabulate, tabulate-at}
+use Rattle.shuffle_words.specs.Words.{Chosen, chosen}
+use Rattle.shuffle_words.proofs.Words.{low-words}
+use Rattle.shuffle.specs.Shuffled.{orderFrom}
+use Rattle.shuffle.proofs.Accepted.{order-permutation}
 use Rattle.steps_canonical.proofs.Whole.{setting-canonical}
 use Rattle.numbers.specs.Numbers.{sevens}
 use Rattle.numbers.proofs.Numbers.{bytes-few}
@@ -31,7 +34,8 @@ use Rattle.sheets.proofs.Writing.{sheet-length}
 use Rattle.steps.specs.Setting.{settingFor}
 use Rattle.cmd_order.specs.Orders.{countIn, entriesAt, orderIn, formQuestions, entryQuestions, orderQuestions}
 use Rattle.cmd_order.proofs.Asking.{places-small}
-use Rattle.cmd_draw.specs.Draw.{wordAt, wordsIn, orderBytes, drawQuestions, drawCall}
+use Rattle.cmd_draw.specs.Draw.{wordAt, bytesFor, wordsIn, orderBytes, drawQuestions, drawFrom, drawCall}
+use Rattle.cmd_draw.proofs.Drawn.{wanted}
 use Rattle.cmd_sheet.specs.Calls.{sheetFor, sheetCall}
 use Rattle.claims.specs.Carrying.{Demand2}
 use Rattle.claims.proofs.Carrying.{demand2}
@@ -41,32 +45,39 @@ use Rattle.claims_job.proofs.Moves.{moves, shows}
 
 -- ---- draw
 
-module _ (n : ℕ) (bytes out : List ℕ) (small : n ≤ 1024) (filled : length bytes ≡ 4 * n) where
-  word-count : length (wordsIn bytes) ≡ n
-  word-count = length-tabulate (wordAt bytes) (length bytes / 4) ∙ omega (arith, filled)
+module _ (n : ℕ) (bytes : List ℕ) (small : n ≤ 1024) where
+  enough-words : 4 * n ≤ length bytes → ((i : ℕ) → i < n → wordAt bytes i < 2 ^ 32 - 1023) → chosen n (wordsIn n bytes) .enough ≡ true
+  enough-words long low =
+      let count = min (bytesFor n) (length bytes) / 4 in
+      let read : bytesFor n ≡ 4 * (n + 64) = sym (wanted n small) in
+      let there : n ≤ count = omega (arith, read) in
+      ap (λ (c : Chosen). c .enough)
+      (low-words n (wordsIn n bytes) small (omega (arith, there, length-tabulate (wordAt bytes) count))
+      (λ i l. rw (tabulate-at (wordAt bytes) count i (omega arith)) (low i l)))
 
-  abbrev order : List ℕ
-  order = shuffled (wordsIn bytes)
+  module _ (out : List ℕ) (enough : chosen n (wordsIn n bytes) .enough ≡ true) where
+    abbrev order : List ℕ
+    order = orderFrom n (wordsIn n bytes)
 
-  permutation : IsPermutation n order
-  permutation = rw (← word-count) (shuffled-permutation (wordsIn bytes))
+    permutation : IsPermutation n order
+    permutation = order-permutation n (wordsIn n bytes) enough
 
-  draw-is : drawCall n bytes out ≡ outcome (accepted (length (orderBytes order))) (overlay out 0 (orderBytes order))
-  unfolding drawCall drawQuestions
-  draw-is = rw (le-leb n 1024 small, eq-eqb (length (wordsIn bytes)) n word-count)
+    draw-is : drawCall n bytes out ≡ outcome (accepted (length (orderBytes order))) (overlay out 0 (orderBytes order))
+    unfolding drawCall drawFrom drawQuestions
+    draw-is = rw (le-leb n 1024 small, enough)
 
-  wrote-order : written (drawCall n bytes out) ≡ orderBytes order
-  wrote-order = rw draw-is (overlay-read out (orderBytes order))
+    wrote-order : written (drawCall n bytes out) ≡ orderBytes order
+    wrote-order = rw draw-is (overlay-read out (orderBytes order))
 
-  draws : Drawn n order (drawCall n bytes out)
-  unfolding orderBytes
-  draws =
-      record {
-        permutation = permutation;
-        draw-accepted = ap (λ (o : Outcome). o .answer) draw-is;
-        order-written = rw wrote-order (order-holds n order small permutation);
-        order-fits = rw wrote-order (omega (arith, bytes-most sevens (λ v. bytes-few v .1) (length order ∷ order), permutation .whole));
-      }
+    draws : Drawn n order (drawCall n bytes out)
+    unfolding orderBytes
+    draws =
+        record {
+          permutation = permutation;
+          draw-accepted = ap (λ (o : Outcome). o .answer) draw-is;
+          order-written = rw wrote-order (order-holds n order small permutation);
+          order-fits = rw wrote-order (omega (arith, bytes-most sevens (λ v. bytes-few v .1) (length order ∷ order), permutation .whole));
+        }
 
 -- ---- sheet
 
@@ -122,4 +133,4 @@ module _ (n : ℕ) (order input out : List ℕ) (H : Holds n order input) where
       }
 
 pub job : Job
-job = record { drawn = draws; taken = order-holds; done = makes }
+job = record { drawn = λ n bytes out small. draws n bytes small out; enough = enough-words; taken = order-holds; done = makes }

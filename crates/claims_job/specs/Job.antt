@@ -2,8 +2,9 @@
 -- definition with which the program's contract equates its answer and its output.
 -- Assumes nothing: these are definitions.
 use mathlib.Core.Path.{_≡_}
+use mathlib.Core.Bool.{true}
 use mathlib.Core.List.{List, _++_}
-use Prim.Native.Nat.{ℕ, _*_, _≤_, _<_}
+use Prim.Native.Nat.{ℕ, _-_, _*_, _^_, _≤_, _<_}
 use lib.ListN.{length, getD, take}
 use Rattle.answers.specs.Answers.{accepted}
 use Rattle.answers.specs.Questions.{allYes, firstNo}
@@ -12,12 +13,13 @@ use Rattle.answers.specs.Outcomes.{Outcome, outcome}
 use Rattle.counts.specs.Counts.{W}
 use Rattle.network.specs.Wiring.{paper}
 use Rattle.permutation.specs.Permutations.{IsPermutation}
-use Rattle.shuffle.specs.Shuffled.{shuffled}
+use Rattle.shuffle_words.specs.Words.{chosen}
+use Rattle.shuffle.specs.Shuffled.{orderFrom}
 use Rattle.canonical.specs.Rule.{ExactlyOne}
 use Rattle.sheets.specs.Sheet.{sheet}
 use Rattle.cmd_lines.specs.Text.{decimal, bitsText, line}
 use Rattle.cmd_order.specs.Orders.{countIn, orderIn, orderQuestions}
-use Rattle.cmd_draw.specs.Draw.{wordsIn, orderBytes, drawCall}
+use Rattle.cmd_draw.specs.Draw.{wordAt, wordsIn, orderBytes, drawCall}
 use Rattle.cmd_sheet.specs.Calls.{sheetCall}
 use Rattle.cmd_move.specs.Calls.{mixCall, unmixCall}
 use Rattle.cmd_show.specs.Show.{orderText, pictured, showCall}
@@ -67,9 +69,12 @@ pub record Made (n : ℕ) (order : List ℕ) (o : Outcome) : Type 0 where
       ≡ outcome (accepted (length (shown n (house .setting) order))) (overlay out 0 (shown n (house .setting) order))
 
 pub record Job : Type 0 where
-  -- four random bytes for each place are drawn into an order that sheet takes, whatever stood in the output
-  pub drawn : (n : ℕ) (bytes out : List ℕ) → n ≤ 1024 → length bytes ≡ 4 * n
-      → Drawn n (shuffled (wordsIn bytes)) (drawCall n bytes out)
+  -- random bytes whose words are enough are drawn into an order that sheet takes, whatever stood in the output
+  pub drawn : (n : ℕ) (bytes out : List ℕ) → n ≤ 1024 → chosen n (wordsIn n bytes) .enough ≡ true
+      → Drawn n (orderFrom n (wordsIn n bytes)) (drawCall n bytes out)
+  -- and they are enough where there is one for each place, each below 2^32 - 1,023
+  pub enough : (n : ℕ) (bytes : List ℕ) → n ≤ 1024 → 4 * n ≤ length bytes → ((i : ℕ) → i < n → wordAt bytes i < 2 ^ 32 - 1023)
+      → chosen n (wordsIn n bytes) .enough ≡ true
   -- sheet takes each order of at most 1,024 places, in draw's form
   pub taken : (n : ℕ) (order : List ℕ) → n ≤ 1024 → IsPermutation n order → Holds n order (orderBytes order)
   -- and from any input that holds an order the rest is done, whatever stood in the output

@@ -1,84 +1,89 @@
 -- The call, return by return.
 -- Assumes nothing.
 use mathlib.Core.Path.{_≡_, refl, sym, ap, _∙_}
-use mathlib.Core.List.{List, [], _∷_}
-use Prim.Native.Nat.{ℕ, _+_, _*_, _/_, _≤_, _<_}
+use mathlib.Core.Logic.{_≢_}
+use mathlib.Core.List.{List}
+use Prim.Native.Nat.{ℕ, _+_, _*_, _/_, _≤_, _<_, min}
 use native.Mathlib.Omega.{arith}
 use native.Mathlib.Decide.{decLt}
-use borrow.Author.Tests.{le-leb, lt-leb, eq-eqb, ne-eqb}
-use lib.Dec.{leb}
-use lib.ListN.{length, getD, take, List·getD-eq-default}
+use borrow.Author.Tests.{le-leb, lt-leb}
+use lib.ListN.{length, getD, take, replicate, List·getD-eq-default}
 use Rattle.answers.specs.declared.Answer.{Answer}
-use Rattle.answers.specs.Answers.{refusal, accepted}
-use Rattle.answers.specs.Questions.{allYes, noAt, firstNo}
+use Rattle.answers.specs.Answers.{accepted}
+use Rattle.answers.specs.Questions.{Verdict, allYes, noAt, firstNo}
 use Rattle.answers.specs.Buffers.{overlay, Put}
-use Rattle.answers.specs.Outcomes.{Outcome, outcome}
+use Rattle.answers.specs.Outcomes.{answerOf, outcome}
 use Rattle.answers.proofs.Buffers.{overlay-taken}
 use Rattle.answers.proofs.Outcomes.{ends-refused, ends-accepted}
+use Rattle.answers.proofs.Putting.{put-length}
 use Rattle.permutation.specs.Permutations.{IsPermutation, tabulate}
 use Rattle.permutation.proofs.Tables.{length-tabulate}
-use Rattle.shuffle.specs.Shuffled.{shuffled, shuffleCall}
-use Rattle.shuffle.proofs.Steps.{shuffled-permutation}
-use Rattle.answers.proofs.Putting.{put-length}
-use Rattle.cmd_draw.specs.Draw.{wordAt, wordsIn, bytesFor, orderBytes, drawQuestions, drawCall}
+use Rattle.shuffle.specs.declared.Drawn.{Drawn}
+use Rattle.shuffle.specs.Shuffled.{Shuffled, orderFrom, shuffleAsks, Acceptable, drawn, shuffleCall}
+use Rattle.shuffle.proofs.Accepted.{shuffle-accepted, shuffle-accepts, order-permutation}
+use Rattle.cmd_draw.specs.Draw.{wordAt, bytesFor, wordsIn, orderBytes, drawQuestions, drawFrom}
 
-pub wanted : (n : ℕ) → n ≤ 1024 → 4 * n ≡ bytesFor n
+pub wanted : (n : ℕ) → n ≤ 1024 → 4 * (n + 64) ≡ bytesFor n
 wanted n h = rw (bytesFor, le-leb n 1024 h)
 
 pub wanted-none : (n : ℕ) → 1024 < n → 0 ≡ bytesFor n
 wanted-none n h = rw (bytesFor, lt-leb n 1024 h)
 
-module _ (n : ℕ) (bytes out : List ℕ) where
-  words-count : length (wordsIn bytes) ≡ length bytes / 4
-  words-count = length-tabulate (wordAt bytes) (length bytes / 4)
+-- the words that were gathered
+pub gathered : (n : ℕ) (bytes before : List ℕ) {most least count : ℕ} {words : List ℕ} → most ≡ bytesFor n
+    → least ≡ min most (length bytes) → count ≡ least / 4 → words ≡ overlay before 0 (tabulate (wordAt bytes) count)
+    → take count words ≡ wordsIn n bytes
+gathered n bytes before {count = count} m l c e =
+    overlay-taken before e (length-tabulate (wordAt bytes) count) ∙ rw (c, l, m)
 
-  pub draw-large : {a : Answer} → 1024 < n → a ≡ refusal 1 0 → outcome a out ≡ drawCall n bytes out
-  unfolding drawCall drawQuestions
-  draw-large h r = ends-refused (firstNo (drawQuestions n bytes)) _ _ out (rw (lt-leb n 1024 h)) r refl
+-- what a shuffle into 1,024 entries came to
+abbrev before : List ℕ
+before = replicate 1024 0
 
-  module _ (few : n ≤ 1024) where
-    pub draw-words : {a : Answer} → (length bytes / 4 ≡ n → ⊥) → a ≡ refusal 16 0 → outcome a out ≡ drawCall n bytes out
-    unfolding drawCall drawQuestions
-    draw-words h r =
-        ends-refused (firstNo (drawQuestions n bytes)) _ _ out
-        (rw (le-leb n 1024 few, ne-eqb (length (wordsIn bytes)) n (λ e. h (sym words-count ∙ e)))) r refl
+module _ (n : ℕ) (words : List ℕ) {order : List ℕ} {r : Drawn} (came : drawn r order ≡ shuffleCall n words (replicate 1024 0)) where
+  told : r .answer ≡ answerOf (firstNo (drawQuestions n words)) n
+  unfolding shuffleCall drawQuestions
+  told = ap (λ (o : Shuffled). o .answer) came ∙ go (decLt 1024 n)
+    where
+      go : Dec (1024 < n) → answerOf (firstNo (shuffleAsks n words before)) n ≡ answerOf (firstNo (drawQuestions n words)) n
+      go (yes l) = rw (lt-leb n 1024 l)
+      go (no l) = rw (le-leb n 1024 (omega arith))
 
-    module _ (count : length bytes / 4 ≡ n) where
-      all-asked : firstNo (drawQuestions n bytes) ≡ allYes
-      unfolding drawQuestions
-      all-asked = rw (le-leb n 1024 few, eq-eqb (length (wordsIn bytes)) n (words-count ∙ count))
+  pub draw-refused : (out : List ℕ) → r .answer .number ≢ 0 → outcome (r .answer) out ≡ drawFrom n words out
+  unfolding drawFrom
+  draw-refused out h = go (firstNo (drawQuestions n words)) refl
+    where
+      go : (v : Verdict) → firstNo (drawQuestions n words) ≡ v → outcome (r .answer) out ≡ drawFrom n words out
+      go allYes e = absurd (h (ap (λ (a : Answer). a .number) told ∙ ap (λ v. answerOf v n .number) e))
+      go (noAt q p) e = ends-refused (firstNo (drawQuestions n words)) _ _ out e (told ∙ ap (λ v. answerOf v n) e) refl
 
-      pub draw-done : {a : Answer} {order : List ℕ} {r : ℕ} {after : List ℕ} → order ≡ shuffled (wordsIn bytes) → Put out 0 (orderBytes order) r after
-          → a ≡ accepted r → outcome a after ≡ drawCall n bytes out
-      unfolding drawCall
-      draw-done e P t =
-          ends-accepted (firstNo (drawQuestions n bytes)) _ _ out all-asked
-          (t ∙ ap accepted (put-length P) ∙ rw e) (P .buffer ∙ rw e)
+  module _ (h : r .answer .number ≡ 0) where
+    A : Acceptable n words before
+    A = shuffle-accepts n words before (sym (ap (λ (o : Shuffled). o .answer .number) came) ∙ h)
 
--- the words that were gathered, and the order that they make
-module _ (n : ℕ) (bytes : List ℕ) (few : n ≤ 1024) (count : length bytes / 4 ≡ n) where
-  pub gathered : (before : List ℕ) {words : List ℕ} → words ≡ overlay before 0 (tabulate (wordAt bytes) n) → take n words ≡ wordsIn bytes
-  gathered before e = overlay-taken before e (length-tabulate (wordAt bytes) n) ∙ ap (tabulate (wordAt bytes)) (sym count)
+    permutation : IsPermutation n (orderFrom n words)
+    permutation = order-permutation n words (A .enough)
 
-  long : {words : List ℕ} → words ≡ wordsIn bytes → length words ≡ n
-  long g = ap length g ∙ length-tabulate (wordAt bytes) (length bytes / 4) ∙ count
-
-  module _ (before : List ℕ) {words order : List ℕ} (g : words ≡ wordsIn bytes) (room : n ≤ length before) {a : Answer} (s : outcome a order ≡ shuffleCall n words before) where
-    pub drawn : take n order ≡ shuffled (wordsIn bytes)
-    unfolding shuffleCall
-    drawn =
-        let P = shuffled-permutation words in
-        let there : order ≡ overlay before 0 (shuffled words) =
-        ap (λ (o : Outcome). o .buffer) s ∙ rw (le-leb n 1024 few, eq-eqb (length words) n (long g), le-leb n (length before) room)
+    order-is : take n order ≡ orderFrom n words
+    order-is =
+        let there : order ≡ overlay before 0 (orderFrom n words) =
+        ap (λ (o : Shuffled). o .buffer) (came ∙ shuffle-accepted n words before A)
         in
-        overlay-taken before there (P .whole ∙ long g) ∙ ap shuffled g
+        overlay-taken before there (permutation .whole)
+
+    pub few : n ≤ 1024
+    few = A .small
 
     pub entries-few : (i : ℕ) → getD (take n order) i 0 < 16384
-    entries-few i = rw drawn (go (decLt i n))
+    entries-few i = rw order-is (go (decLt i n))
       where
-        P : IsPermutation n (shuffled (wordsIn bytes))
-        P = rw (← long {words = wordsIn bytes} refl) (shuffled-permutation (wordsIn bytes))
+        go : Dec (i < n) → getD (orderFrom n words) i 0 < 16384
+        go (yes l) = omega (arith, permutation .below i l, A .small)
+        go (no l) = rw (List·getD-eq-default (orderFrom n words) 0 {n = i} (omega (arith, permutation .whole))) (omega arith)
 
-        go : Dec (i < n) → getD (shuffled (wordsIn bytes)) i 0 < 16384
-        go (yes l) = omega (arith, P .below i l)
-        go (no l) = rw (List·getD-eq-default (shuffled (wordsIn bytes)) 0 {n = i} (omega (arith, P .whole))) (omega arith)
+    pub draw-done : (out : List ℕ) {a : Answer} {q : ℕ} {after : List ℕ} → Put out 0 (orderBytes (take n order)) q after → a ≡ accepted q
+        → outcome a after ≡ drawFrom n words out
+    unfolding drawFrom drawQuestions
+    draw-done out P t =
+        ends-accepted (firstNo (drawQuestions n words)) _ _ out (rw (le-leb n 1024 (A .small), A .enough))
+        (t ∙ ap accepted (put-length P) ∙ rw order-is) (P .buffer ∙ rw order-is)

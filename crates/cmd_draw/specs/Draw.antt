@@ -1,14 +1,15 @@
--- An order drawn from random bytes (01: draw), as the programs read it: a count and that many entries, as sheet numbers.
+-- An order drawn from random bytes (01: draw; 02, F-5), as the programs read it: a count and that many entries, as sheet numbers.
 -- Assumes nothing: these are definitions.
 use mathlib.Core.Bool.{true, false}
 use mathlib.Core.List.{List, [], _∷_}
-use Prim.Native.Nat.{ℕ, _+_, _*_, _/_}
-use lib.Dec.{leb, eqb}
+use Prim.Native.Nat.{ℕ, _+_, _*_, _/_, min}
+use lib.Dec.{leb}
 use lib.ListN.{length, getD}
 use Rattle.answers.specs.Questions.{Question, ask, firstNo}
 use Rattle.answers.specs.Outcomes.{Outcome, settled}
 use Rattle.permutation.specs.Permutations.{tabulate}
-use Rattle.shuffle.specs.Shuffled.{shuffled}
+use Rattle.shuffle_words.specs.Words.{chosen}
+use Rattle.shuffle.specs.Shuffled.{orderFrom}
 use Rattle.numbers.specs.Numbers.{sevens}
 use Rattle.rows.specs.Rows.{numbersBytes}
 
@@ -17,23 +18,30 @@ abbrev pub wordAt : List ℕ → ℕ → ℕ
 wordAt bytes i =
     getD bytes (4 * i) 0 + 256 * getD bytes (4 * i + 1) 0 + 65536 * getD bytes (4 * i + 2) 0 + 16777216 * getD bytes (4 * i + 3) 0
 
--- the whole words of the bytes
-abbrev pub wordsIn : List ℕ → List ℕ
-wordsIn bytes = tabulate (wordAt bytes) (length bytes / 4)
+-- words beyond one for each place, for those that are skipped
+abbrev pub spare : ℕ
+spare = 64
 
--- how many bytes are read for n words: none where n is refused
+-- how many bytes are read for n places: none where n is refused
 abbrev pub bytesFor : ℕ → ℕ
-bytesFor n = elim (leb n 1024) [ true ↦ 4 * n | false ↦ 0 ]
+bytesFor n = elim (leb n 1024) [ true ↦ 4 * (n + spare) | false ↦ 0 ]
+
+-- the whole words of as many bytes as are read
+abbrev pub wordsIn : ℕ → List ℕ → List ℕ
+wordsIn n bytes = tabulate (wordAt bytes) (min (bytesFor n) (length bytes) / 4)
 
 -- the bytes of an order
 unfoldable pub orderBytes : List ℕ → List ℕ
 orderBytes order = numbersBytes sevens (length order ∷ order)
 
--- 01's questions 1, 16; its 13 gets a yes always, since the output has room for every order
+-- draw's questions 1 and 18; its 13 gets a yes always, since there is room for every order
 unfoldable pub drawQuestions : ℕ → List ℕ → List Question
-drawQuestions n bytes = ask 1 0 (leb n 1024) ∷ ask 16 0 (eqb (length (wordsIn bytes)) n) ∷ []
+drawQuestions n words = ask 1 0 (leb n 1024) ∷ ask 18 0 (chosen n words .enough) ∷ []
 
--- the order over the front of the output, and as count its bytes
+-- the order that words draw over the front of the output, and as count its bytes
+unfoldable pub drawFrom : ℕ → List ℕ → List ℕ → Outcome
+drawFrom n words out =
+    settled (firstNo (drawQuestions n words)) (length (orderBytes (orderFrom n words))) (orderBytes (orderFrom n words)) out
+
 unfoldable pub drawCall : ℕ → List ℕ → List ℕ → Outcome
-drawCall n bytes out =
-    settled (firstNo (drawQuestions n bytes)) (length (orderBytes (shuffled (wordsIn bytes)))) (orderBytes (shuffled (wordsIn bytes))) out
+drawCall n bytes out = drawFrom n (wordsIn n bytes) out

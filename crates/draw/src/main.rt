@@ -1,5 +1,5 @@
-// `draw N`: an order of N places from 4·N random bytes on standard input (01: draw), as `settings` and `sheet` read it.
-// It reads no more bytes than that, so that an input without end will do.
+// `draw N`: an order of N places from random bytes on standard input (01: draw; 02, F-5), as `settings` and `sheet` read it.
+// It reads at most 4·(N + 64) of them, so that an input without end will do.
 use cmd_streams::Argument;
 use cmd_words::Program;
 
@@ -24,7 +24,7 @@ fn main() {
     let Argument::Number(n) = last else {
         return;
     };
-    let mut bytes = [0u8; 4096];
+    let mut bytes = [0u8; 4352];
     let most = cmd_draw::bytes_for(n);
     read(&mut bytes[..most], n);
 }

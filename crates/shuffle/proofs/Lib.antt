@@ -1,2 +1,4 @@
 pub mod Steps
 pub mod Outcomes
+pub mod Accepted
+pub mod Fair

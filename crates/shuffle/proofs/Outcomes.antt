@@ -1,68 +1,82 @@
 -- What a shuffle comes to, return by return.
 -- Assumes nothing.
-use mathlib.Core.Path.{_≡_, refl, sym, ap, _∙_}
-use mathlib.Core.Logic.{_≢_}
+use mathlib.Core.Path.{_≡_, sym, ap, _∙_}
+use mathlib.Core.Bool.{true}
 use mathlib.Core.List.{List, [], _∷_, _++_}
 use Prim.Native.Nat.{ℕ, _≤_, _<_}
 use native.Mathlib.Omega.{arith}
-use lib.Dec.{leb, eqb}
-use lib.ListN.{length, drop}
-use borrow.Author.Tests.{le-leb, lt-leb, eq-eqb, ne-eqb}
+use lib.Dec.{leb}
+use lib.ListN.{length, take, drop}
+use lib.Seq.{length-take-le}
+use borrow.Author.Tests.{le-leb, lt-leb}
 use Rattle.answers.specs.declared.Answer.{Answer}
 use Rattle.answers.specs.Answers.{refusal, accepted}
-use Rattle.answers.specs.Questions.{Question, ask, firstNo, noAt}
+use Rattle.answers.specs.Questions.{Question, ask, allYes, noAt, firstNo}
 use Rattle.answers.specs.Buffers.{overlay}
-use Rattle.answers.specs.Outcomes.{outcome}
+use Rattle.answers.specs.Outcomes.{besideOf}
 use Rattle.answers.proofs.Questions.{asked-yes, asked-no}
 use Rattle.answers.proofs.Buffers.{overlay-front}
-use Rattle.answers.proofs.Outcomes.{ends-refused, ends-accepted}
 use Rattle.permutation.specs.Permutations.{identity}
 use Rattle.permutation.proofs.Laws.{identity-length}
-use Rattle.shuffle.specs.Shuffled.{stepped, shuffled, shuffleAsks, shuffleCall}
+use Rattle.shuffle.specs.declared.Drawn.{Drawn}
+use Rattle.shuffle_words.specs.declared.Choice.{Choice}
+use Rattle.shuffle_words.specs.declared.Choice.the-variants.{Enough, RunOut}
+use Rattle.shuffle_words.specs.Words.{chosen}
+use Rattle.shuffle_words.specs.Choosing.{supplyAsks, verdictOf, usedOf, Chose}
+use Rattle.shuffle.specs.Shuffled.{stepped, shuffled, shuffleAsks, drawn, shuffleCall}
 use Rattle.shuffle.proofs.Steps.{stepped-front, stepped-length}
 
 module _ (n : ℕ) (words before : List ℕ) where
   room : List Question
-  room = ask 13 0 (leb n (length before)) ∷ []
+  room = ask 13 0 (leb n (length before)) ∷ supplyAsks n words
 
-  count : List Question
-  count = ask 16 0 (eqb (length words) n) ∷ room
+  asks-room : n ≤ 1024 → firstNo (shuffleAsks n words before) ≡ firstNo room
+  unfolding room
+  asks-room l = asked-yes 1 0 (leb n 1024) room (le-leb n 1024 l)
 
-  asks-count : n ≤ 1024 → firstNo (shuffleAsks n words before) ≡ firstNo count
-  unfolding count room
-  asks-count l = asked-yes 1 0 (leb n 1024) count (le-leb n 1024 l)
+  asks-supply : n ≤ 1024 → n ≤ length before → firstNo (shuffleAsks n words before) ≡ firstNo (supplyAsks n words)
+  unfolding room
+  asks-supply l h = asks-room l ∙ asked-yes 13 0 (leb n (length before)) (supplyAsks n words) (le-leb n (length before) h)
 
-  asks-room : n ≤ 1024 → length words ≡ n → firstNo (shuffleAsks n words before) ≡ firstNo room
-  unfolding count room
-  asks-room l e = asks-count l ∙ asked-yes 16 0 (eqb (length words) n) room (eq-eqb (length words) n e)
+  pub asks-pass : n ≤ 1024 → n ≤ length before → chosen n words .enough ≡ true → firstNo (shuffleAsks n words before) ≡ allYes
+  asks-pass l h e = asks-supply l h ∙ asked-yes 18 0 (chosen n words .enough) [] e
 
-  refused : {r : Answer} {q : ℕ} → firstNo (shuffleAsks n words before) ≡ noAt q 0 → r ≡ refusal q 0 → outcome r before ≡ shuffleCall n words before
+  refused : {r : Drawn} {q : ℕ} → firstNo (shuffleAsks n words before) ≡ noAt q 0 → r ≡ record { answer = refusal q 0; used = 0 }
+      → drawn r before ≡ shuffleCall n words before
   unfolding shuffleCall
-  refused v e = ends-refused _ n (shuffled words) before v e refl
+  refused v e = rw (v, e)
 
-  pub shuffle-large : {r : Answer} → 1024 < n → r ≡ refusal 1 0 → outcome r before ≡ shuffleCall n words before
-  unfolding count room
-  shuffle-large l e = refused (asked-no 1 0 (leb n 1024) count (lt-leb n 1024 l)) e
+  pub shuffle-large : {r : Drawn} → 1024 < n → r ≡ record { answer = refusal 1 0; used = 0 } → drawn r before ≡ shuffleCall n words before
+  unfolding room
+  shuffle-large l e = refused (asked-no 1 0 (leb n 1024) room (lt-leb n 1024 l)) e
 
-  pub shuffle-words : {r : Answer} → n ≤ 1024 → length words ≢ n → r ≡ refusal 16 0 → outcome r before ≡ shuffleCall n words before
-  unfolding count room
-  shuffle-words s l e = refused (asks-count s ∙ asked-no 16 0 (eqb (length words) n) room (ne-eqb (length words) n l)) e
+  pub shuffle-short : {r : Drawn} → n ≤ 1024 → length before < n → r ≡ record { answer = refusal 13 0; used = 0 }
+      → drawn r before ≡ shuffleCall n words before
+  unfolding room
+  shuffle-short s l e = refused (asks-room s ∙ asked-no 13 0 (leb n (length before)) (supplyAsks n words) (lt-leb n (length before) l)) e
 
-  pub shuffle-short : {r : Answer} → n ≤ 1024 → length words ≡ n → length before < n → r ≡ refusal 13 0 → outcome r before ≡ shuffleCall n words before
-  unfolding count room
-  shuffle-short s f l e = refused (asks-room s f ∙ asked-no 13 0 (leb n (length before)) [] (lt-leb n (length before) l)) e
+  pub shuffle-out : {r : Drawn} {kept : List ℕ} {choice : Choice} → n ≤ 1024 → n ≤ length before → Chose n words kept choice
+      → choice ≡ RunOut → r ≡ record { answer = refusal 18 0; used = 0 } → drawn r before ≡ shuffleCall n words before
+  shuffle-out s l c t e = refused (asks-supply s l ∙ c .asked ∙ ap verdictOf t) e
 
   -- what the exchanges leave of the numbered front is the shuffle, over the front
-  laid : length words ≡ n → stepped (length words) words (identity n ++ drop n before) ≡ overlay before 0 (shuffled words)
-  laid f =
-      ap (λ k. stepped (length words) words (identity k ++ drop k before)) (sym f)
-      ∙ stepped-front (length words) words (identity (length words)) (drop (length words) before) (omega arith) (identity-length (length words))
-      ∙ ap (λ k. shuffled words ++ drop k before) (sym (stepped-length (length words) words (identity (length words)) ∙ identity-length (length words)))
-      ∙ sym (overlay-front before (shuffled words))
+  laid : (taken : List ℕ) → length taken ≡ n
+      → stepped (length taken) taken (identity n ++ drop n before) ≡ overlay before 0 (shuffled taken)
+  laid taken f =
+      let m = length taken in
+      ap (λ k. stepped m taken (identity k ++ drop k before)) (sym f)
+      ∙ stepped-front m taken (identity m) (drop m before) (omega arith) (identity-length m)
+      ∙ ap (λ k. shuffled taken ++ drop k before) (sym (stepped-length m taken (identity m) ∙ identity-length m))
+      ∙ sym (overlay-front before (shuffled taken))
 
-  pub shuffle-done : {r : Answer} {numbered after : List ℕ} → n ≤ 1024 → length words ≡ n → n ≤ length before → r ≡ accepted n
-      → numbered ≡ identity n ++ drop n before → after ≡ stepped (length words) words numbered → outcome r after ≡ shuffleCall n words before
-  unfolding shuffleCall room
-  shuffle-done s f l e g h =
-      ends-accepted _ n (shuffled words) before (asks-room s f ∙ asked-yes 13 0 (leb n (length before)) [] (le-leb n (length before) l)) e
-      (h ∙ ap (stepped (length words) words) g ∙ laid f)
+  pub shuffle-done : {a : Answer} {kept numbered after : List ℕ} {choice : Choice} {used : ℕ} → n ≤ 1024 → n ≤ length before
+      → Chose n words kept choice → choice ≡ Enough used → n ≤ length kept → a ≡ accepted n
+      → numbered ≡ identity n ++ drop n before → after ≡ stepped (length (take n kept)) (take n kept) numbered
+      → drawn (record { answer = a; used = used }) after ≡ shuffleCall n words before
+  unfolding shuffleCall
+  shuffle-done {kept = kept} {used = used} s l c t f e g h =
+      let yes : firstNo (supplyAsks n words) ≡ allYes = c .asked ∙ ap verdictOf t in
+      let front : chosen n words .taken ≡ take n kept = c .taken (ap verdictOf t) in
+      let count : chosen n words .used ≡ used = sym (ap (λ v. besideOf v (chosen n words .used)) yes) ∙ c .used ∙ ap usedOf t in
+      let left = h ∙ ap (stepped (length (take n kept)) (take n kept)) g ∙ laid (take n kept) (length-take-le n kept f) in
+      rw (asks-supply s l ∙ yes, front, count, e, left)

@@ -1,16 +1,18 @@
-// A permutation shuffled by words (01: draw).
+// A permutation shuffled by words (01: draw; 02, F-5: fair drawing).
 ghost use mathlib.Core.Path.{_≡_};
 ghost use mathlib.Core.List.{_++_};
 ghost use Prim.Native.Nat.{_≤_, _<_};
 ghost use lib.ListN.{length, drop};
-ghost use Rattle.answers.specs.Outcomes.{outcome};
+ghost use Rattle.answers.specs.Answers.{refusal};
 ghost use Rattle.permutation.specs.Permutations.{identity};
-ghost use Rattle.shuffle.specs.Shuffled.{partner, stepped, shuffleCall};
+ghost use Rattle.shuffle.specs.Shuffled.{partner, stepped, drawn, shuffleCall};
+use shuffle_words::Choice;
+use shuffle_words::wide;
 
-fn wide(x: u32) -> usize
-    ensures { λ r. ⌜ r ≡ x ⌝ }
-{
-    x as usize
+// An answer, and beside it how many of the words were used: 0 in a refusal.
+pub struct Drawn {
+    pub answer: answers::Answer,
+    pub used: usize,
 }
 
 // 0 to n - 1 over the front of out.
@@ -50,20 +52,35 @@ fn exchange(words: &[u32], out: &mut [u16])
     }
 }
 
+// Refused at place 0.
+fn refused(number: usize) -> Drawn
+    ensures { λ r. ⌜ r ≡ record { answer = refusal number 0; used = 0 } ⌝ }
+{
+    Drawn {
+        answer: answers::refuse(number, 0),
+        used: 0,
+    }
+}
+
 // The call keeps no log: its places may follow the words.
-pub fn shuffle(n: usize, words: &[u32], out: &mut [u16]) -> answers::Answer
-    ensures { λ r. ⌜ outcome r (now (out .exit)) ≡ shuffleCall n (now (words .entry)) (now (out .entry)) ⌝ }
+pub fn shuffle(n: usize, words: &[u32], out: &mut [u16]) -> Drawn
+    ensures { λ r. ⌜ drawn r (now (out .exit)) ≡ shuffleCall n (now (words .entry)) (now (out .entry)) ⌝ }
 {
     if 1024 < n {
-        return answers::refuse(1, 0);
-    }
-    if words.len() != n {
-        return answers::refuse(16, 0);
+        return refused(1);
     }
     if out.len() < n {
-        return answers::refuse(13, 0);
+        return refused(13);
     }
+    let mut kept = [0u32; 1024];
+    let choice = shuffle_words::choose(n, words, &mut kept);
+    let Choice::Enough(used) = choice else {
+        return refused(18);
+    };
     number(n, out);
-    exchange(words, out);
-    answers::accept(n)
+    exchange(&kept[..n], out);
+    Drawn {
+        answer: answers::accept(n),
+        used,
+    }
 }

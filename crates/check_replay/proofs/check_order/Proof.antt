@@ -9,11 +9,8 @@ use Rattle.check_replay.proofs.check_order.Tie as tie
 words-requires : tie.Need-words-requires
 words-requires c κs = search needs
 
-array-share-prefix-words : tie.Need-array-share-prefix-words
-array-share-prefix-words c = search needs
-
 slice-aggregate-shuffle : tie.Need-slice-aggregate-shuffle
-slice-aggregate-shuffle c = sym (length-take-le _ _ (search needs))
+slice-aggregate-shuffle c = search needs
 
 slice-aggregate-shuffle-2 : tie.Need-slice-aggregate-shuffle-2
 slice-aggregate-shuffle-2 c = search needs
@@ -68,7 +65,6 @@ check-order-spec =
     tie.close
     (tie.spec
     words-requires
-    array-share-prefix-words
     slice-aggregate-shuffle
     slice-aggregate-shuffle-2
     shuffle-requires

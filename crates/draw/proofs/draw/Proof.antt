@@ -9,16 +9,16 @@ use Rattle.cmd_streams.proofs.Streams.{made-within}
 use Rattle.answers.specs.declared.Answer.{Answer}
 use Rattle.answers.specs.Questions.{firstNo}
 use Rattle.answers.specs.Outcomes.{outcome}
-use Rattle.shuffle.specs.Shuffled.{shuffled}
-use Rattle.cmd_draw.specs.Draw.{wordsIn, orderBytes, drawQuestions, drawCall}
+use Rattle.shuffle.specs.Shuffled.{orderFrom}
+use Rattle.cmd_draw.specs.Draw.{wordsIn, orderBytes, drawQuestions, drawFrom, drawCall}
 use borrow.Author.Needs.{needs}
 use Rattle.draw.proofs.draw.Statement.{statement}
 use Rattle.draw.proofs.draw.Tie as tie
 
 -- the order's bytes are within the buffer
 within : (n : ℕ) (bytes out : List ℕ) {a : Answer} {after : List ℕ} → outcome a after ≡ drawCall n bytes out → a .count ≤ length after
-unfolding drawCall
-within n bytes out e = made-within (firstNo (drawQuestions n bytes)) (orderBytes (shuffled (wordsIn bytes))) out e
+unfolding drawCall drawFrom
+within n bytes out e = made-within (firstNo (drawQuestions n (wordsIn n bytes))) (orderBytes (orderFrom n (wordsIn n bytes))) out e
 
 draw-order-requires : tie.Need-draw-order-requires
 draw-order-requires c κs = search needs

@@ -26,17 +26,8 @@ slice-aggregate-shuffle-2 c = sym (length-take-le _ _ (search needs))
 shuffle-requires : tie.Need-shuffle-requires
 shuffle-requires c κs = search needs
 
-answered-requires : tie.Need-answered-requires
-answered-requires c κs = search needs
-
-tallied-requires : tie.Need-tallied-requires
-tallied-requires c κs = search needs
-
-alike-requires : tie.Need-alike-requires
-alike-requires c κs = search needs
-
-tallied-requires-2 : tie.Need-tallied-requires-2
-tallied-requires-2 c κs = search needs
+told-requires : tie.Need-told-requires
+told-requires c κs = search needs
 
 returns : tie.Need-returns
 returns c = search needs
@@ -51,8 +42,5 @@ of-shuffle-spec =
     array-borrow-prefix-out
     slice-aggregate-shuffle-2
     shuffle-requires
-    answered-requires
-    tallied-requires
-    alike-requires
-    tallied-requires-2
+    told-requires
     returns)

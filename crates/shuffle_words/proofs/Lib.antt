@@ -1,0 +1,3 @@
+pub mod Fair
+pub mod Words
+pub mod Choosing
