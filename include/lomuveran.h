@@ -9,9 +9,9 @@
  * to as many items as that length says; what a call may write overlaps nothing else that the same call is handed.
  *
  * Stack: at 1,024 places the calls need at most 12 KB of it (control_bits 11.3, permutation_combine 10.6, ranked_order 7.4 at
- * 6 places, permutation_exchange and permutation_inverse 6.5, write_sheet 4.8, permutation_identity 4.5, read_sheet 3.5,
- * apply_inverse 3.2, apply 2.7, the others 2.1 or less), as bench/stack reads from the object code. For a thread allow 20 KB,
- * which holds the C library's own needs too: its first memcpy, where it is linked dynamically, takes some KB more
+ * 6 places, permutation_exchange and permutation_inverse 6.5, write_sheet 4.8, shuffle and permutation_identity 4.5,
+ * read_sheet 3.5, apply_inverse 3.2, apply 2.7, the others 2.1 or less), as bench/stack reads from the object code. For a thread
+ * allow 20 KB, which holds the C library's own needs too: its first memcpy, where it is linked dynamically, takes some KB more
  * (permutation_combine ran in 18 KB and not in 17; the other calls on permutations, control_bits, ranked_order, apply and
  * write_sheet in 16). No heap. */
 #ifndef LOMUVERAN_H
@@ -54,8 +54,9 @@ enum {
     LOMUVERAN_PLACES = 14,         /* are both exchanged places below the length (of a listed order: is r below the number of
                                     * orders)? */
     LOMUVERAN_LENGTHS = 15,        /* have both orders one length? */
-    LOMUVERAN_WORDS = 16,          /* are there exactly n words? */
-    LOMUVERAN_NOT_LISTED = 17      /* is n at most 6, so that its orders are listed? */
+    /* 16 is withdrawn: no call asks it, and its number is not used again */
+    LOMUVERAN_NOT_LISTED = 17,     /* is n at most 6, so that its orders are listed? */
+    LOMUVERAN_WORDS_RUN_OUT = 18   /* are there words enough to draw the last place? */
 };
 
 /* number: 0, or that of the question that got a no; place: where, 0 unless the question names one; count: what the call
@@ -88,8 +89,18 @@ lomuveran_answer lomuveran_apply(size_t n, size_t width, uint8_t *blocks, size_t
 lomuveran_answer lomuveran_apply_inverse(size_t n, size_t width, uint8_t *blocks, size_t block_bytes, const uint8_t *bits,
                                          size_t bit_count, uint16_t *log, size_t log_words);
 
-/* Draw: an order of n places from n random words, over the front of out. Questions 1, 16, 13. Count: n. */
-lomuveran_answer lomuveran_shuffle(size_t n, const uint32_t *words, size_t word_count, uint16_t *out, size_t out_len);
+/* used: the words that a draw used, skipped ones included, from the first on; 0 where the call is refused. */
+typedef struct lomuveran_drawn {
+    lomuveran_answer answer;
+    size_t used;
+} lomuveran_drawn;
+
+/* Draw: an order of n places from random words, over the front of out. Each place takes a word. With d places left, a word at or
+ * above the largest multiple of d that doesn't exceed 2^32 is skipped and the next one tried, so that each of the d remainders
+ * comes from equally many words. out_len: at least n. Any number of words may be lent: fewer than n never do, n + 64 do but for a
+ * chance below 2^-1000. Refused by 18, nothing was drawn: lend the same words with more behind them. Accepted, the words used are
+ * spent, and another draw begins at words + used. Questions 1, 13, 18. The answer's count: n. */
+lomuveran_drawn lomuveran_shuffle(size_t n, const uint32_t *words, size_t word_count, uint16_t *out, size_t out_len);
 
 /* Every order of a few places, n at most LOMUVERAN_MAX_LISTED: of all orders of n places in dictionary order (0 to 6 places have
  * 1, 1, 2, 6, 24, 120, 720 of them) the one of number r, counted from 0, over the front of order; its control bits and the log

@@ -6,9 +6,9 @@
 use lomuveran::{Permutation, Setting};
 use std::{env, error::Error, fs, fs::File, io::Read};
 
-/// n random words.
+/// Random words for an order of n places, and 64 to spare: some may be skipped.
 fn words(n: usize) -> Result<Vec<u32>, Box<dyn Error>> {
-    let mut bytes = vec![0; 4 * n];
+    let mut bytes = vec![0; 4 * (n + 64)];
     File::open("/dev/urandom")?.read_exact(&mut bytes)?;
     Ok(bytes.chunks_exact(4).map(|word| u32::from_le_bytes([word[0], word[1], word[2], word[3]])).collect())
 }
@@ -16,7 +16,7 @@ fn words(n: usize) -> Result<Vec<u32>, Box<dyn Error>> {
 fn mix(width: usize, blocks: &str, mixed: &str, sheet: &str) -> Result<(), Box<dyn Error>> {
     let mut bytes = fs::read(blocks)?;
     let n = bytes.len().checked_div(width).unwrap_or(0);
-    let order = Permutation::shuffle(&words(n)?)?;
+    let order = Permutation::shuffle(n, &words(n)?)?;
     let setting = Setting::control_bits(&order);
     setting.apply(width, &mut bytes)?;
     fs::write(sheet, setting.write_sheet())?;

@@ -90,16 +90,32 @@ pub fn apply_inverse(n: usize, width: usize, blocks: &mut [u8], bits: &[u8], log
     .count()
 }
 
-/// An order from n random words, over the front of `out`. Questions 1, 16, 13. Gives n.
+/// What [`shuffle`] drew.
+#[derive(Clone, Copy, Debug, PartialEq, Eq, Hash)]
+pub struct Drawn {
+    /// The places of the order: so many entries of `out` were written.
+    pub count: usize,
+    /// The words used, skipped ones included: another draw begins behind them.
+    pub used: usize,
+}
+
+/// An order of n places from random words, over the front of `out`. Each place takes a word. With d places left, a word at or
+/// above the largest multiple of d that doesn't exceed 2^32 is skipped and the next one tried, so that each of the d remainders
+/// comes from equally many words. Any number of words may be lent: fewer than n never do, n + 64 do but for a chance below
+/// 2^-1000. Refused by 18, nothing was drawn: lend the same words with more behind them. Questions 1, 13, 18.
 ///
 /// ```
 /// let mut order = [0; 3];
-/// assert_eq!(lomuveran::shuffle(3, &[2, 1, 0], &mut order), Ok(3));
+/// assert_eq!(lomuveran::shuffle(3, &[2, 1, 0], &mut order), Ok(lomuveran::Drawn { count: 3, used: 3 }));
 /// assert_eq!(order, [2, 0, 1]);
+/// let skipped = lomuveran::shuffle(3, &[u32::MAX, 2, 1, 0, 9], &mut order).unwrap();
+/// assert_eq!((skipped.used, order), (4, [2, 0, 1]));
+/// assert_eq!(lomuveran::shuffle(3, &[u32::MAX, 2, 1], &mut order).unwrap_err().question, 18);
 /// ```
-pub fn shuffle(n: usize, words: &[u32], out: &mut [u16]) -> Result<usize, Refusal> {
+pub fn shuffle(n: usize, words: &[u32], out: &mut [u16]) -> Result<Drawn, Refusal> {
     // SAFETY: as above.
-    unsafe { ffi::lomuveran_shuffle(n, words.as_ptr(), words.len(), out.as_mut_ptr(), out.len()) }.count()
+    let drawn = unsafe { ffi::lomuveran_shuffle(n, words.as_ptr(), words.len(), out.as_mut_ptr(), out.len()) };
+    drawn.answer.count().map(|count| Drawn { count, used: drawn.used })
 }
 
 /// Of all orders of n places, at most [`MAX_LISTED`](crate::MAX_LISTED), in dictionary order, n! of them, the one of number r,

@@ -27,6 +27,12 @@ pub struct Number {
 }
 
 #[repr(C)]
+pub struct Drawn {
+    pub answer: Answer,
+    pub used: usize,
+}
+
+#[repr(C)]
 pub struct Report {
     pub answer: Answer,
     pub count: usize,
@@ -81,7 +87,7 @@ extern "C" {
         log: *mut u16,
         log_words: usize,
     ) -> Answer;
-    pub fn lomuveran_shuffle(n: usize, words: *const u32, word_count: usize, out: *mut u16, out_len: usize) -> Answer;
+    pub fn lomuveran_shuffle(n: usize, words: *const u32, word_count: usize, out: *mut u16, out_len: usize) -> Drawn;
     pub fn lomuveran_ranked_order(
         n: usize,
         r: usize,

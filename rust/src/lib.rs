@@ -16,7 +16,7 @@ mod setting;
 
 pub use calls::{
     apply, apply_inverse, control_bits, entries, gauge_report, ranked_order, read_number, read_sheet, shuffle, switches,
-    write_sheet, Figures, Number,
+    write_sheet, Drawn, Figures, Number,
 };
 pub use permutation::Permutation;
 pub use refusal::Refusal;

@@ -44,15 +44,16 @@ impl Permutation {
         Ok(Permutation { entries: list.to_vec(), fixed })
     }
 
-    /// An order from as many random words as it has places. Question 1.
+    /// An order of n places from random words, as [`shuffle`](crate::shuffle) draws it: n + 64 do but for a chance below
+    /// 2^-1000. Lend it words of its own: how many were used is not told. Questions 1, 18.
     ///
     /// ```
-    /// let order = lomuveran::Permutation::shuffle(&[2, 1, 0]).unwrap();
+    /// let order = lomuveran::Permutation::shuffle(3, &[2, 1, 0]).unwrap();
     /// assert_eq!(order.entries(), [2, 0, 1]);
     /// ```
-    pub fn shuffle(words: &[u32]) -> Result<Permutation, Refusal> {
-        let mut entries = vec![0; words.len().min(MAX_PLACES)];
-        crate::shuffle(words.len(), words, &mut entries)?;
+    pub fn shuffle(n: usize, words: &[u32]) -> Result<Permutation, Refusal> {
+        let mut entries = vec![0; n.min(MAX_PLACES)];
+        crate::shuffle(n, words, &mut entries)?;
         let fixed = Permutation::fixed_of(&entries).expect("what is drawn is a permutation");
         Ok(Permutation { entries, fixed })
     }

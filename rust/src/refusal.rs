@@ -9,7 +9,7 @@ use std::{error::Error, fmt};
 /// ```
 #[derive(Clone, Copy, Debug, PartialEq, Eq, Hash)]
 pub struct Refusal {
-    /// 1 to 17.
+    /// 1 to 18, but for 16, which is withdrawn.
     pub question: usize,
     /// An index, counted from 0.
     pub place: usize,
@@ -34,8 +34,8 @@ impl Refusal {
             13 => "the output is too short",
             14 => "an exchanged place is not below the length (of listed orders: none has so high a number)",
             15 => "the two orders have different lengths",
-            16 => "there are not exactly n words",
             17 => "there are more than 6 places, and the orders of so many are not listed",
+            18 => "the words ran out before the last place was drawn",
             _ => "no such question",
         }
     }

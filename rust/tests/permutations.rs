@@ -90,10 +90,10 @@ fn chains() {
     let (mut tally, mut random) = (Tally::default(), Random(25));
     for n in [0, 1, 2, 5, 6, 100, 1023, 1024] {
         for start in 0..4 {
-            let given: Vec<u32> = (0..n).map(|_| random.word() as u32).collect();
+            let given: Vec<u32> = (0..n + 64).map(|_| random.word() as u32).collect();
             let mut p = match start {
                 0 => Permutation::identity(n).unwrap(),
-                1 => Permutation::shuffle(&given).unwrap(),
+                1 => Permutation::shuffle(n, &given).unwrap(),
                 _ => Permutation::from_list(&random.order(n)).unwrap(),
             };
             let mut order = p.entries().to_vec();
@@ -137,16 +137,50 @@ fn draws() {
     let (mut tally, mut random) = (Tally::default(), Random(24));
     for _ in 0..600 {
         let n = random.size() + random.below(3);
-        let given: Vec<u32> =
-            (0..n.saturating_add_signed([0, 0, 0, 1, -1][random.below(5)])).map(|_| random.word() as u32).collect();
+        let large = [0, 1, 1, 8][random.below(4)]; // so many of eight words are among the largest
+        let count = (n + n * large / 6).saturating_add_signed([0, 0, 1, -1, 70][random.below(5)]);
+        let given: Vec<u32> = (0..count).map(|_| word(&mut random, large)).collect();
         let room = n.saturating_add_signed([0, 1, 40, -1][random.below(4)]);
         let drawn = plain::shuffle(n, &given, room);
         let mut out = words(&random.words(room));
-        tally.outcome(seen(lomuveran::shuffle(n, &given, out.part())), plain::outcome(&drawn, Vec::len), (n, room));
-        out.check(&mut tally, &drawn.unwrap_or_default(), (n, room));
-        tally.same(list(Permutation::shuffle(&given)), must(plain::shuffle(given.len(), &given, usize::MAX)), n);
+        let is = lomuveran::shuffle(n, &given, out.part());
+        tally.outcome(seen(is.map(|drawn| drawn.count)), plain::outcome(&drawn, |(order, _)| order.len()), (n, room));
+        tally.same(is.map_or(0, |drawn| drawn.used), drawn.as_ref().map_or(0, |(_, used)| *used), (n, room));
+        out.check(&mut tally, &drawn.unwrap_or_default().0, (n, room));
+        tally.same(list(Permutation::shuffle(n, &given)), must(plain::shuffle(n, &given, usize::MAX).map(|drawn| drawn.0)), n);
     }
-    tally.say_questions("outcomes and buffers of draws", &[0, 1, 13, 16]);
+    tally.say_questions("outcomes and buffers of draws", &[0, 1, 13, 18]);
+}
+
+/// A word; `large` of eight are among the 1,100 largest, which are skipped at some turns.
+fn word(random: &mut Random, large: usize) -> u32 {
+    if random.below(8) < large {
+        u32::MAX - random.below(1100) as u32
+    } else {
+        random.word() as u32
+    }
+}
+
+/// With d places left, the words around the limit: the last one that is taken, and the first that is skipped.
+#[test]
+fn limits() {
+    let mut tally = Tally::default();
+    let mut out = [0; 1024];
+    for d in 1..=1024u64 {
+        let limit = (1u64 << 32) / d * d;
+        let used = |words: &[u32], out: &mut [u16; 1024]| lomuveran::shuffle(d as usize, words, out).map(|drawn| drawn.used);
+        let mut first = [0; 1025];
+        first[0] = (limit - 1) as u32;
+        tally.same(used(&first, &mut out), Ok(d as usize), d);
+        tally.same(out[0], d as u16 - 1, d);
+        if limit < 1 << 32 {
+            first[0] = limit as u32;
+            tally.same(used(&first, &mut out), Ok(d as usize + 1), d);
+            first[0] = u32::MAX;
+            tally.same(used(&first, &mut out), Ok(d as usize + 1), d);
+        }
+    }
+    tally.say("words around the limits of every number of places");
 }
 
 #[test]
@@ -170,8 +204,11 @@ fn counts() {
 #[test]
 fn each_question_has_a_text() {
     let mut tally = Tally::default();
-    let texts: std::collections::HashSet<&str> = (1..=17).map(|question| Refusal { question, place: 0 }.text()).collect();
+    let asked = (1..=18).filter(|question| *question != 16);
+    let texts: std::collections::HashSet<&str> = asked.map(|question| Refusal { question, place: 0 }.text()).collect();
     tally.same(texts.len(), 17, "texts");
-    tally.same(texts.contains(Refusal { question: 18, place: 0 }.text()), false, "question 18");
+    for question in [0, 16, 19] {
+        tally.same(texts.contains(Refusal { question, place: 0 }.text()), false, question);
+    }
     tally.say("texts of the questions");
 }

@@ -9,7 +9,7 @@ import subprocess
 import sys
 
 NUMBERS = {'u8': 'uint8_t', 'u16': 'uint16_t', 'u32': 'uint32_t', 'usize': 'size_t', 'i64': 'int64_t'}
-STRUCTS = {f'{of}{name}': f'lomuveran_{name.lower()}' for name in ('Answer', 'Number', 'Report', 'Record')
+STRUCTS = {f'{of}{name}': f'lomuveran_{name.lower()}' for name in ('Answer', 'Number', 'Drawn', 'Report', 'Record')
            for of in ('C', '')}  # capi's and the Rust package's names
 
 

@@ -36,13 +36,15 @@ static void alike(const void *is, const void *must, size_t bytes, const char *wh
         same(had.fixed, f, #r " .fixed", __LINE__); \
     } while (0)
 
+#define DRAWN(d, n, c, u) do { lomuveran_drawn drew = d; ANSWER(drew.answer, n, 0, c); SAME(drew.used, u); } while (0)
+
 /* ---- the types: an assignment of another type is an error under -Werror */
 
 static lomuveran_answer (*const of_count[])(size_t) = {lomuveran_switches, lomuveran_entries};
 static lomuveran_answer (*const of_set)(const uint16_t *, size_t, uint8_t *, size_t, uint16_t *, size_t) = lomuveran_control_bits;
 static lomuveran_answer (*const of_mix[])(size_t, size_t, uint8_t *, size_t, const uint8_t *, size_t, uint16_t *, size_t) = {
     lomuveran_apply, lomuveran_apply_inverse};
-static lomuveran_answer (*const of_draw)(size_t, const uint32_t *, size_t, uint16_t *, size_t) = lomuveran_shuffle;
+static lomuveran_drawn (*const of_draw)(size_t, const uint32_t *, size_t, uint16_t *, size_t) = lomuveran_shuffle;
 static lomuveran_answer (*const of_rank)(size_t, size_t, uint16_t *, size_t, uint8_t *, size_t, uint16_t *, size_t) =
     lomuveran_ranked_order;
 static lomuveran_answer (*const of_write)(size_t, const uint8_t *, size_t, uint8_t *, size_t) = lomuveran_write_sheet;
@@ -64,6 +66,8 @@ static void layout(void) {
     SAME(sizeof(lomuveran_number), 40);
     SAME(offsetof(lomuveran_number, value), 24);
     SAME(offsetof(lomuveran_number, next), 32);
+    SAME(sizeof(lomuveran_drawn), 32);
+    SAME(offsetof(lomuveran_drawn, used), 24);
     SAME(sizeof(lomuveran_report), 72);
     SAME(offsetof(lomuveran_report, count), 24);
     SAME(offsetof(lomuveran_report, least), 32);
@@ -116,7 +120,7 @@ static void mixing(void) {
 /* the refusals of these calls: the Rust tests ask them on many inputs */
 static void refusals(void) {
     static const uint16_t twice[2] = {0, 0};
-    static const uint32_t words[3] = {2, 1, 0};
+    static const uint32_t words[5] = {0xffffffff, 2, 1, 0, 7}; /* with three places left the first is skipped */
     static const uint16_t drawn[4] = {2, 0, 1, 9}, nines[4] = {9, 9, 9, 9};
     static const uint8_t one[3] = {1, 3, 0x0e}, surplus[3] = {1, 0, 0}, longer[4] = {1, 3, 0x86, 0};
     uint8_t bits[3] = {9, 9, 9}, blocks[2] = {1, 2};
@@ -135,9 +139,13 @@ static void refusals(void) {
     ANSWER(lomuveran_write_sheet(2, set, 1, bits, 2), LOMUVERAN_OUTPUT, 0, 0);
     ALIKE(bits, kept);
     ALIKE(blocks, still);
-    ANSWER(of_draw(3, words, 2, out, 4), LOMUVERAN_WORDS, 0, 0);
+    DRAWN(of_draw(LOMUVERAN_MAX_PLACES + 1, words, 5, out, 4), LOMUVERAN_TOO_MANY_PLACES, 0, 0);
+    DRAWN(of_draw(3, words, 0, out, 2), LOMUVERAN_OUTPUT, 0, 0);
+    DRAWN(of_draw(3, words, 3, out, 4), LOMUVERAN_WORDS_RUN_OUT, 0, 0);
+    DRAWN(of_draw(1, words, 0, out, 4), LOMUVERAN_WORDS_RUN_OUT, 0, 0);
+    DRAWN(of_draw(0, words, 0, out, 0), 0, 0, 0);
     ALIKE(out, nines);
-    ANSWER(of_draw(3, words, 3, out, 4), 0, 0, 3);
+    DRAWN(of_draw(3, words, 5, out, 4), 0, 3, 4);
     ALIKE(out, drawn);
 }
 
