@@ -101,7 +101,7 @@ pub(crate) fn told(
     tally::tallied(t, a & (d.used == used) & plain::alike(out, right))
 }
 
-pub(crate) fn check(t: Tally, n: usize, words: &[u32]) -> Tally
+fn check(t: Tally, n: usize, words: &[u32]) -> Tally
     requires { ⌜ n ≤ 1024 ⌝ }
 {
     let mut out = [7u16; 1024];
