@@ -3,8 +3,8 @@
 use mathlib.Core.Path.{_≡_, refl, sym, ap, _∙_}
 use mathlib.Core.Bool.{Bool, true, false}
 use mathlib.Core.List.{List, [], _∷_, _++_, append-assoc}
-use Prim.Native.Nat.{ℕ, zero, suc, _+_, _-_, _*_, _%_, _≤_, _<_}
-use native.Mathlib.Nat.{suc-mul, add-mul, one-mul, mul-le-mul, mul-le-mul-right}
+use Prim.Native.Nat.{ℕ, zero, suc, _+_, _-_, _*_, _≤_, _<_}
+use native.Mathlib.Nat.{suc-mul, add-mul, one-mul, mul-le-mul-right}
 use native.Mathlib.Omega.{arith}
 use lib.Dec.{eqb}
 use lib.ListN.{length, take, drop, getD, length-append, length-drop, take-append-drop}
@@ -14,7 +14,8 @@ use Rattle.counts.specs.Counts.{up}
 use Rattle.network.specs.Network.{down}
 use Rattle.network.specs.Move.{switch}
 use Rattle.network.specs.Blocks.{cut}
-use Rattle.apply_exchange.specs.Bytes.{bytesSwitched}
+use Rattle.apply_words.specs.Bytes.{bytesSwitched}
+use Rattle.apply_exchange.proofs.Parts.{behind-bytes}
 use Rattle.network.proofs.Blocks.{length-cut, cut-append, block-ends}
 use Rattle.network.proofs.Kept.{swap-two, switch-left}
 
@@ -68,7 +69,12 @@ kept a gap bit (suc j) bytes h = switch-left 0 (a + j) (a + j + gap) bit (bytesS
 parts : (w p g r : ℕ) (a x m y z : List ℕ) → length a ≡ p * w → length x ≡ w → length m ≡ g * w → length y ≡ w
     → cut w (p + suc (g + suc r)) (a ++ (x ++ (m ++ (y ++ z)))) ≡ cut w p a ++ (x ∷ (cut w g m ++ (y ∷ cut w r z)))
 parts w p g r a x m y z ea ex em ey =
-    rw (cut-append w p (suc (g + suc r)) a (x ++ (m ++ (y ++ z))) ea, cut-block w (g + suc r) x (m ++ (y ++ z)) ex, cut-append w g (suc r) m (y ++ z) em, cut-block w r y z ey)
+    rw (
+      cut-append w p (suc (g + suc r)) a (x ++ (m ++ (y ++ z))) ea,
+      cut-block w (g + suc r) x (m ++ (y ++ z)) ex,
+      cut-append w g (suc r) m (y ++ z) em,
+      cut-block w r y z ey,
+    )
 
 -- a switch on whole blocks, where the bytes are so many parts
 parted : (w p g r : ℕ) (a x m y z : List ℕ) → length a ≡ p * w → length x ≡ w → length m ≡ g * w → length y ≡ w
@@ -82,7 +88,9 @@ parted w p g r a x m y z ea ex em ey =
     let upper : suc g + p ≡ length (e ++ (x ∷ n)) = sym (rw (length-append, length-cut, length-cut) (omega arith)) in
     ap (cut w (p + suc (g + suc r))) (exchanged w a x m y z (p * w) (suc g * w) ex ey ea gap)
     ∙ parts w p g r a y m x z ea ey em ex
-    ∙ sym (ap (switch [] p (suc g + p) 1) (parts w p g r a x m y z ea ex em ey) ∙ ap (λ i. switch [] p i 1 (e ++ (x ∷ (n ++ (y ∷ cut w r z))))) upper ∙ ap (λ i. switch [] i (length (e ++ (x ∷ n))) 1 (e ++ (x ∷ (n ++ (y ∷ cut w r z))))) lower ∙ swap-two [] e n (cut w r z) x y)
+    ∙ sym (ap (switch [] p (suc g + p) 1) (parts w p g r a x m y z ea ex em ey)
+    ∙ ap (λ i. switch [] p i 1 (e ++ (x ∷ (n ++ (y ∷ cut w r z))))) upper
+    ∙ ap (λ i. switch [] i (length (e ++ (x ∷ n))) 1 (e ++ (x ∷ (n ++ (y ∷ cut w r z))))) lower ∙ swap-two [] e n (cut w r z) x y)
 
 -- a switch on the bytes of the blocks at p and k places further on is a switch on the blocks
 pub cut-switched : (w m k p bit : ℕ) (bytes : List ℕ) → 0 < k → k + p < m → m * w ≡ length bytes
@@ -121,7 +129,8 @@ cut-switched w m k p bit bytes h l e = go (eqb bit 1) refl
         let whole : bytes ≡ a ++ (x ++ (n ++ (y ++ z))) =
         sym (rw (take-append-drop w b2, take-append-drop (g * w) b1, take-append-drop w b, take-append-drop (p * w) bytes)) in
         rw (one, ← before, ← all, whole)
-        (parted w p g r a x n y z (length-take-le (p * w) bytes (omega arith)) (length-take-le w b (omega arith)) (length-take-le (g * w) b1 (omega arith)) (length-take-le w b2 (omega arith)))
+        (parted w p g r a x n y z (length-take-le (p * w) bytes (omega arith)) (length-take-le w b (omega arith))
+        (length-take-le (g * w) b1 (omega arith)) (length-take-le w b2 (omega arith)))
 
 -- ---- where block i of a layer lies, and its partner
 
@@ -137,14 +146,8 @@ within w m i long h e =
     let one : 1 * w ≤ up m * w = mul-le-mul-right w (omega arith) in
     record { gap = omega (arith, one-mul w); ends = omega (arith, block-ends w m (up m + i) (omega arith), add-mul (up m) i w) }
 
--- no block lies past 1,024 x 256 bytes
-pub small : (w i : ℕ) → i ≤ 1024 → w ≤ 256 → i * w ≤ 262144
-small w i h g = mul-le-mul h g
-
--- one block down
-pub block-down : (w i j a : ℕ) → i ≡ suc j → j < 1024 → w ≤ 256 → a ≡ i * w → (a + 262144 - w) % 262144 ≡ j * w
-block-down w i j a e h g at =
-    let below : j ≤ 1023 = omega arith in
-    let q : j * w ≤ 1023 * 256 = mul-le-mul below g in
-    let s : a ≡ j * w + w = at ∙ ap (λ n. n * w) e ∙ suc-mul j w in
-    omega arith
+-- the parts of a block, one behind the other, are the block
+pub both-parts : (w whole rest a gap s : ℕ) (b1 b2 b3 : List ℕ) → w ≡ whole + rest → b2 ≡ bytesSwitched a gap s whole b1
+    → b3 ≡ bytesSwitched (a + whole) gap s rest b2 → b3 ≡ bytesSwitched a gap s w b1
+both-parts w whole rest a gap s b1 b2 b3 e f g =
+    behind-bytes a gap s whole rest b1 b2 b3 (a + whole) refl f g ∙ ap (λ n. bytesSwitched a gap s n b1) (sym e)

@@ -16,7 +16,7 @@ use Rattle.network.specs.Move.{switch, layer, layerBack}
 use Rattle.network.specs.Log.{Entry, entry, entryWords, words, layerEntries}
 use Rattle.network.proofs.Shape.{length-layerEntries}
 use Rattle.entry_log.proofs.Written.{log-then}
-use Rattle.apply_exchange.specs.Bytes.{bytesSwitched}
+use Rattle.apply_words.specs.Bytes.{bytesSwitched}
 use Rattle.apply_layers.specs.Ran.{Ran, placed, bitsBack}
 use Rattle.apply_layers.proofs.Blocks.{cut-switched}
 
@@ -57,12 +57,14 @@ module _ (w m : ℕ) where
     first-more i b1 l1 b2 l2 h long room r f g =
         let bit : getD bits (e + i) 0 ≡ getD (drop e bits) i 0 = sym (getD-drop e bits i 0) in
         rw (add-one i)
-        (ran-then (ap (λ n. e + n) (length-layerEntries paper (placed o m) i)) room r (ran-one o i (getD (drop e bits) i 0) (e + i) b1 l1 b2 l2 h long (rw bit at f) g))
+        (ran-then (ap (λ n. e + n) (length-layerEntries paper (placed o m) i)) room r
+        (ran-one o i (getD (drop e bits) i 0) (e + i) b1 l1 b2 l2 h long (rw bit at f) g))
 
     -- a whole layer of c switches, last to first
     module _ (c : ℕ) where
       abbrev pub Back : ℕ → ℕ → List ℕ → List ℕ → List ℕ → List ℕ → Type 0
-      Back i to b1 l1 b′ l′ = Ran w m (layerBack [] paper (up m) i (bitsBack bits e c)) (reverse (layerEntries paper (placed o m) i)) to b1 l1 b′ l′
+      Back i to b1 l1 b′ l′ = Ran w m (layerBack [] paper (up m) i (bitsBack bits e c))
+          (reverse (layerEntries paper (placed o m) i)) to b1 l1 b′ l′
 
       -- whoever runs the first i switches from here, last to first, has run the whole layer
       abbrev pub Leads : ℕ → ℕ → List ℕ → List ℕ → Type 0
@@ -78,7 +80,8 @@ module _ (w m : ℕ) where
           → Leads j (to + 1) b2 l2
       unfolding layerBack layerEntries
       leads-more i j to b1 l1 b2 l2 next h long room lead f g b′ l′ rest =
-          let bit : getD bits (length bits - (e + c) + j) 0 ≡ getD (bitsBack bits e c) j 0 = sym (getD-drop (length bits - (e + c)) bits j 0) in
+          let bit : getD bits (length bits - (e + c) + j) 0 ≡ getD (bitsBack bits e c) j 0 =
+          sym (getD-drop (length bits - (e + c)) bits j 0) in
           let one = entry 7 (o + j) (o + (up m + j)) in
           let es = layerEntries paper (placed o m) j in
           let last : reverse (es ++ (one ∷ [])) ≡ one ∷ reverse es = reverse-append es (one ∷ []) in
