@@ -76,7 +76,7 @@ static void line(int c, size_t places, size_t bytes) {
 }
 
 int main(int argc, char **argv) {
-    static const size_t places[3] = {16, 128, 1024}, widths[4] = {1, 6, 64, 256};
+    static const size_t places[3] = {16, 128, 1024}, widths[6] = {1, 6, 8, 16, 64, 256};
     int c, k, j, lines = 0;
     if (argc == 6 && !strcmp(argv[1], "once")) { /* once OBJECTS CALL PLACES WIDTH */
         load(argv[2], 0);
@@ -91,7 +91,7 @@ int main(int argc, char **argv) {
     heading(2);
     for (c = 0; c < CALLS; c++)
         for (k = 0; k < 3 && (argc == 3 || !strcmp(argv[3], words[c])); k++)
-            for (j = 0; j < (c == MIX || c == RETURN ? 4 : 1); j++, lines++) line(c, places[k], widths[j]);
+            for (j = 0; j < (c == MIX || c == RETURN ? 6 : 1); j++, lines++) line(c, places[k], widths[j]);
     check(lines > 0, "which call? set, mix, return or entries");
     return 0;
 }

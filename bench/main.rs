@@ -180,7 +180,7 @@ fn main() {
         "| places × width | mix, µs | return, µs | mix / tuned Rust | return / tuned Rust | return / mix | bitonic / mix | mix / scatter |\n|---|---|---|---|---|---|---|---|"
     );
     for n in [16, 128, 1024] {
-        for width in [6, 64, 256] {
+        for width in [6, 8, 16, 64, 256] {
             let (_, row, set) = measure(n, width);
             println!("{row}");
             sets.extend((width == 64).then_some(set));
