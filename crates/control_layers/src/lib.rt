@@ -9,17 +9,18 @@ ghost use lib.ListN.{length};
 ghost use Rattle.counts.specs.Counts.{up};
 ghost use Rattle.network.specs.Wiring.{paper};
 ghost use Rattle.network.specs.Log.{entry, entryWords};
+ghost use Rattle.steps.specs.Sweeps.{each};
 ghost use Rattle.steps.specs.State.{outputBit};
 ghost use Rattle.steps.specs.Steps.{step4, step5, step6};
 ghost use Rattle.control_sweeps.specs.Tables.{Below, Within};
 ghost use Rattle.control_walk.specs.Walks.{state, within, Went};
 ghost use Rattle.control_layers.specs.Switches.{Switched};
 
-// 4. The input switches act on the table and all marks are cleared.
+// 4. The input switches act on the table and all marks are cleared: no table holds them from here on, and each network's rounds
+// begin with a table of pairs of which none is marked.
 pub fn step4(
     vals: &mut [u16],
     trails: &mut [u16],
-    marks: &mut [u8],
     bits: &[u8],
     o: usize,
     m: usize,
@@ -27,17 +28,14 @@ pub fn step4(
     w: control_walk::Walk,
 ) -> control_walk::Walk
     requires { ⌜ (2 ≤ m) × (o + m ≤ 1024) × (o + m ≤ length (now vals)) × (o + m ≤ length (now trails))
-        × (up m ≤ length (now marks)) × (w .b + (up m - 1) ≤ length (now bits)) × (entryWords * (w .e + 1) ≤ length (now log))
-        × Below 2 (now bits) ⌝ }
-    ensures { λ r. ⌜ Went (entry 4 o m ∷ []) (up m - 1) w r (now (log .entry)) (now (log .exit))
-        × (state (now (vals .exit)) (now (trails .exit)) (now (marks .exit)) (now (bits .entry)) r
-        ≡ step4 paper (within o m (w .b)) (state (now (vals .entry)) (now (trails .entry)) (now (marks .entry))
-        (now (bits .entry)) w)) ⌝ }
+        × (w .b + (up m - 1) ≤ length (now bits)) × (entryWords * (w .e + 1) ≤ length (now log)) × Below 2 (now bits) ⌝ }
+    ensures { λ r. ⌜ Went (entry 4 o m ∷ []) (up m - 1) w r (now (log .entry)) (now (log .exit)) × ((ms : List ℕ)
+        → state (now (vals .exit)) (now (trails .exit)) (each (λ i. i) (up m) (λ i mark. 0) ms) (now (bits .entry)) r
+        ≡ step4 paper (within o m (w .b)) (state (now (vals .entry)) (now (trails .entry)) ms (now (bits .entry)) w)) ⌝ }
 {
     let k = (m + 1) / 2;
     control_sweeps::act_on(vals, o, k, k - 1, bits, w.b);
     control_sweeps::act_on(trails, o, k, k - 1, bits, w.b);
-    control_sweeps::clear(marks, k);
     entry_log::write_entry(log, w.e, 4, o, m);
     control_walk::passed(w, k - 1)
 }

@@ -36,7 +36,6 @@ pub tidy-more : (a b : ℕ) (x : State) → a ≤ b → Tidy a x → Tidy b x
 tidy-more a b x l T =
     record {
       values-below = below-more a b (x .values) l (T .values-below);
-      marks-below = T .marks-below;
       bits-below = T .bits-below;
       f-below = T .f-below;
       c-below = T .c-below;
@@ -44,18 +43,9 @@ tidy-more a b x l T =
       s-below = T .s-below;
     }
 
--- no trail matters
-pub tidy-trails : (v : ℕ) (vs ts us ms bs : List ℕ) (w : Walk) → Tidy v (state vs ts ms bs w) → Tidy v (state vs us ms bs w)
-tidy-trails v vs ts us ms bs w T =
-    record {
-      values-below = T .values-below;
-      marks-below = T .marks-below;
-      bits-below = T .bits-below;
-      f-below = T .f-below;
-      c-below = T .c-below;
-      g-below = T .g-below;
-      s-below = T .s-below;
-    }
+-- equal states are tidy alike
+pub tidy-is : (v : ℕ) {x y : State} → x ≡ y → Tidy v x → Tidy v y
+tidy-is v {x} {y} e T = subst (λ (s : State). Tidy v s) e T
 
 module _ (N : Subnetwork) (small : N .size ≤ 1024) (v : ℕ) (l : v ≤ 32768) (x : State) (T : Tidy v x) where
   pub tidy1 : Tidy v (step1 paper N x)
@@ -64,7 +54,6 @@ module _ (N : Subnetwork) (small : N .size ≤ 1024) (v : ℕ) (l : v ≤ 32768)
       let start : up (N .size) - 1 < 32768 = omega arith in
       record {
         values-below = T .values-below;
-        marks-below = T .marks-below;
         bits-below = T .bits-below;
         f-below = pick-below (noneMarked (x .marks) (up (N .size))) start (T .f-below);
         c-below = pick-below (noneMarked (x .marks) (up (N .size))) start (T .c-below);
@@ -79,7 +68,6 @@ module _ (N : Subnetwork) (small : N .size ≤ 1024) (v : ℕ) (l : v ≤ 32768)
   tidy2 =
       record {
         values-below = T .values-below;
-        marks-below = T .marks-below;
         bits-below = T .bits-below;
         f-below = T .f-below;
         c-below = T .c-below;
@@ -100,7 +88,6 @@ module _ (N : Subnetwork) (small : N .size ≤ 1024) (v : ℕ) (l : v ≤ 32768)
       let again : Bool = cond (eqb (other paper k (x .s)) (x .c)) (ltb (lowestUnmarked ms k) k) false in
       record {
         values-below = T .values-below;
-        marks-below = store-below 2 (λ i. i) k p 1 (x .marks) (T .marks-below) (omega arith);
         bits-below =
             store-below 2 (λ i. N .bit + i) (k - 1) p (digit (not (paper .dec k (x .s) .1))) (x .bits) (T .bits-below)
             (digit-small (not (paper .dec k (x .s) .1)));
@@ -115,7 +102,6 @@ module _ (N : Subnetwork) (small : N .size ≤ 1024) (v : ℕ) (l : v ≤ 32768)
   tidy4 =
       record {
         values-below = act-below v _ (x .bits) (N .bit) (up (N .size) - 1) (x .values) (T .values-below);
-        marks-below = each-below 2 2 (λ i. i) (up (N .size)) (λ i mark. 0) (x .marks) (omega arith) (T .marks-below) (λ i m h. omega arith);
         bits-below = T .bits-below;
         f-below = T .f-below;
         c-below = T .c-below;
@@ -130,7 +116,6 @@ module _ (N : Subnetwork) (small : N .size ≤ 1024) (v : ℕ) (l : v ≤ 32768)
         values-below =
             each-below v v (N .place) (N .size) _ (x .values) (omega arith) (T .values-below)
             (λ i u h. omega (arith, pair-within (up (N .size)) u));
-        marks-below = T .marks-below;
         bits-below = T .bits-below;
         f-below = T .f-below;
         c-below = T .c-below;
@@ -171,7 +156,6 @@ tidy6 o m bit v x h T =
           each-lifts v (v + up m) o m (λ i u. paper .enc (up m) (u, late i)) (switches (x .values)) (omega arith)
           (act-below v (λ p. o + paper .enc (up m) p) bits (outputBit (within o m bit)) (m - up m) (x .values) (T .values-below))
           (λ i u l. regained u (late i) l);
-      marks-below = T .marks-below;
       bits-below =
           each-below 2 2 (λ i. outputBit (within o m bit) + i) (m - up m) (λ i u. getD (x .trails) (o + i) 0 % 2) (x .bits) (omega arith)
           (T .bits-below) (λ i u l. half (getD (x .trails) (o + i) 0));

@@ -8,6 +8,7 @@ use native.Mathlib.Numerals.{add-one}
 use native.Mathlib.Omega.{arith}
 use lib.ListN.{length, length-append}
 use borrow.Author.Tests.{lt-ltb, le-ltb}
+use Rattle.answers.specs.Buffers.{overlay}
 use Rattle.answers.proofs.Buffers.{overlay-none}
 use Rattle.counts.specs.Counts.{up, W}
 use Rattle.counts.proofs.Rule.{W-more}
@@ -20,6 +21,9 @@ use Rattle.steps.specs.State.{State, Subnetwork, outputBit}
 use Rattle.steps.specs.Steps.{step4, step5, step6}
 use Rattle.steps.specs.Sequence.{rounds, inputEntries, entriesOf}
 use Rattle.steps.specs.Fold.{roundsOf, inputSteps, setNet}
+use Rattle.control_sweeps.specs.Tables.{Below}
+use Rattle.control_rows.specs.Rows.{Gathered}
+use Rattle.control_rings.specs.Turns.{Small}
 use Rattle.control_walk.specs.declared.Walk.{Walk}
 use Rattle.control_walk.specs.Walks.{within, Went}
 use Rattle.control_network.proofs.Bounds.{further}
@@ -43,7 +47,21 @@ pub went-as : {es fs : List Entry} {n p : ℕ} {w r : Walk} {a b : List ℕ} →
 went-as {es} {fs} {n} {p} {w} {r} {a} {b} e f G =
     record { count = rw (← e) (G .count); bit = rw (← f) (G .bit); log = rw (← e) (G .log) }
 
+-- the same from a walk that has written and passed as much
+pub went-from : {es : List Entry} {n : ℕ} {r : Walk} {a b : List ℕ} (w v : Walk) → v .e ≡ w .e → v .b ≡ w .b → Went es n v r a b → Went es n w r a b
+went-from {es} {n} {r} {a} {b} w v e f G =
+    record {
+      count = G .count ∙ ap (λ x. x + length es) e;
+      bit = G .bit ∙ ap (λ x. x + n) f;
+      log = G .log ∙ ap (λ x. overlay a (entryWords * x) (words es)) e;
+    }
+
 -- ---- the rounds
+
+-- the values gathered are as small as those of the table
+pub small-gathered : (place : ℕ → ℕ) (m : ℕ) (xs row : List ℕ) → Below 32768 xs → Gathered place m xs row → Small m row
+unfolding Below Small
+small-gathered place m xs row h G i l = rw (G .at i l) (h (place i))
 
 pub rounds-more : (i o m : ℕ) → rounds i o m ++ (entry 1 o m ∷ entry 2 o m ∷ entry 3 o m ∷ []) ≡ rounds (i + 1) o m
 unfolding rounds

@@ -2,32 +2,40 @@
 -- Assumes nothing: these are definitions.
 use Prim.Native.Nat.{ℕ, _+_, _-_, _*_, _≤_, _<_}
 use mathlib.Core.List.{List}
-use lib.ListN.{length, getD}
+use lib.ListN.{length, getD, replicate}
 use Rattle.counts.specs.Counts.{up, W, E}
 use Rattle.network.specs.Log.{entryWords}
 use Rattle.steps.specs.State.{State}
 use Rattle.control_sweeps.specs.Tables.{Below}
 use Rattle.control_walk.specs.declared.Walk.{Walk}
+use Rattle.control_walk.specs.Walks.{state}
+
+-- the state that the tables and a walk are where none of j pairs is marked
+abbrev pub unmarked : ℕ → List ℕ → List ℕ → List ℕ → Walk → State
+unmarked j values trails bits w = state values trails (replicate j 0) bits w
 
 -- the tables, the bits and the log have room for the network of m places from o
-pub record Room (o m : ℕ) (w : Walk) (values trails marks bits log : List ℕ) : Type 0 where
+pub record Room (o m : ℕ) (w : Walk) (values trails pairs bits log : List ℕ) : Type 0 where
   pub places : o + m ≤ 1024
   pub values-room : o + m ≤ length values
   pub trails-room : o + m ≤ length trails
-  pub marks-room : up m ≤ length marks
+  pub pairs-room : 512 ≤ length pairs
   pub bits-room : w .b + W m ≤ length bits
   pub few : w .b + W m ≤ 9217
   pub log-room : entryWords * (w .e + E m) ≤ length log
 
--- hidden numbers are small, so that no sum of 16 bits overflows: values are below v, marks and bits are 0 or 1
-pub record Tidy (v : ℕ) (x : State) : Type 0 where
-  pub values-below : Below v (x .values)
-  pub marks-below : Below 2 (x .marks)
-  pub bits-below : Below 2 (x .bits)
-  pub f-below : x .f < 32768
-  pub c-below : x .c < 32768
-  pub g-below : x .g < 32768
-  pub s-below : x .s < 32768
+-- hidden numbers are small, so that no sum of 16 bits overflows: values are below v, bits are 0 or 1
+pub record TidyIn (v : ℕ) (values bits : List ℕ) (f c g s : ℕ) : Type 0 where
+  pub values-below : Below v values
+  pub bits-below : Below 2 bits
+  pub f-below : f < 32768
+  pub c-below : c < 32768
+  pub g-below : g < 32768
+  pub s-below : s < 32768
+
+-- those of a state
+abbrev pub Tidy : ℕ → State → Type 0
+Tidy v x = TidyIn v (x .values) (x .bits) (x .f) (x .c) (x .g) (x .s)
 
 -- and trails are short: a network of m places can lengthen each of those of its places
 unfoldable pub Lengthens : ℕ → ℕ → List ℕ → Type 0

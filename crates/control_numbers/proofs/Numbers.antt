@@ -122,12 +122,3 @@ pairs k p = go (decLt p k)
           across = rw (q, o₂) (omega arith);
           side = rw q;
         }
-
--- the number of a pair's switch, and that the sum fits
-pub switched : (k p : ℕ)
-    → (k * digit (not (ltb p (k - 1))) ≤ k) × (p + k * digit (not (ltb p (k - 1))) ≡ cond (ltb p (k - 1)) p (p + k))
-switched k p = go (ltb p (k - 1))
-  where
-    go : (b : Bool) → (k * digit (not b) ≤ k) × (p + k * digit (not b) ≡ cond b p (p + k))
-    go true = (omega arith, omega arith)
-    go false = (omega arith, omega arith)

@@ -88,12 +88,3 @@ pub fn other_of(k: u16, p: u16) -> u16
 {
     p + k - 2 * k * at_least(p, k)
 }
-
-// The input switch of a pair of k: its own number, and past the first k numbers for the last pair, which has none. So a
-// sweep of k places stores nothing for it, and is a round number of places where k is.
-pub fn switch_of(k: u16, pair: u16) -> u16
-    requires { ⌜ (0 < k) × (k ≤ 1024) × (pair < 32768) ⌝ }
-    ensures { λ r. ⌜ r ≡ cond (ltb pair (k - 1)) pair (pair + k) ⌝ }
-{
-    pair + k * at_least(pair, k - 1)
-}

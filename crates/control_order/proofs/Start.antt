@@ -1,4 +1,4 @@
--- The table as it starts: the order copied, the bits cleared, trails and marks empty.
+-- The table as it starts: the order copied, the bits cleared, trails empty, no pair marked.
 -- Assumes nothing.
 use mathlib.Core.Path.{_≡_, refl, sym, ap, _∙_, fun-ext}
 use mathlib.Core.List.{List, _∷_}
@@ -23,9 +23,10 @@ use Rattle.steps.proofs.Running.{run-is-fold}
 use Rattle.steps.proofs.Sweeps.{length-each, each-at}
 use Rattle.steps.proofs.Lengths.{length-entries}
 use Rattle.control_sweeps.specs.Tables.{Below}
+use Rattle.control_pairs.proofs.Held.{zero-at}
 use Rattle.control_walk.specs.declared.Walk.{Walk}
-use Rattle.control_walk.specs.Walks.{state, Went}
-use Rattle.control_network.specs.Inner.{Room, Tidy, Lengthens}
+use Rattle.control_walk.specs.Walks.{Went}
+use Rattle.control_network.specs.Inner.{Room, Tidy, Lengthens, unmarked}
 use Rattle.control_order.specs.Inner.{Sets}
 
 unlike-self : (n : ℕ) → Unlike n (λ i. i)
@@ -47,11 +48,6 @@ filled F xs ys e f =
 pub copied : (xs ys : List ℕ) → length xs ≡ length ys → each (λ i. i) (length ys) (λ i x. getD ys i 0) xs ≡ ys
 copied xs ys e = filled (λ i. getD ys i 0) xs ys e (λ i l. refl)
 
-pub zero-at : (n i : ℕ) → _≡_ {A = ℕ} (getD (replicate {A = ℕ} n 0) i 0) 0
-zero-at zero i = refl
-zero-at (suc n) zero = refl
-zero-at (suc n) (suc i) = zero-at n i
-
 pub cleared : (xs : List ℕ) (n : ℕ) → length xs ≡ n → each (λ i. i) (length xs) (λ i x. 0) xs ≡ replicate {A = ℕ} n 0
 cleared xs n e =
     let r : length (replicate {A = ℕ} n 0) ≡ n = length-replicate {A = ℕ} n 0 in
@@ -71,13 +67,12 @@ unfolding Lengthens
 zeros-lengthen n h i l = rw (zero-at n (0 + i)) (omega arith)
 
 abbrev pub still : Walk
-still = record { f = 0; c = 0; g = 0; s = 0; e = 0; b = 0 }
+still = record { f = 0; c = 0; g = 0; s = 0; any = 0; e = 0; b = 0 }
 
 pub tidy-start : (order : List ℕ) → Below 1024 order → Tidy 1024 (start order)
 tidy-start order h =
     record {
       values-below = h;
-      marks-below = zeros-below 2 (up (length order)) (omega arith);
       bits-below = zeros-below 2 (W (length order)) (omega arith);
       f-below = omega arith;
       c-below = omega arith;
@@ -86,45 +81,45 @@ tidy-start order h =
     }
 
 -- the tables that the code prepares are the start
-pub start-is : (order vs ts ms bs : List ℕ) → vs ≡ order → ts ≡ replicate (length order) 0 → ms ≡ replicate (up (length order)) 0
-    → bs ≡ replicate (W (length order)) 0 → state vs ts ms bs still ≡ start order
-start-is order vs ts ms bs e₁ e₂ e₃ e₄ = rw (e₁, e₂, e₃, e₄)
+pub start-is : (order vs ts bs : List ℕ) → vs ≡ order → ts ≡ replicate (length order) 0 → bs ≡ replicate (W (length order)) 0
+    → unmarked (up (length order)) vs ts bs still ≡ start order
+start-is order vs ts bs e₁ e₂ e₃ = rw (e₁, e₂, e₃)
 
 -- the setter from the start: what the recursion left is what running the entries leaves
-pub sets-whole : (order vs ts ms bs bits log bits′ log′ : List ℕ) (vs′ ts′ ms′ : List ℕ) (r : Walk)
-    → vs ≡ order → ts ≡ replicate {A = ℕ} (length order) 0 → ms ≡ replicate {A = ℕ} (up (length order)) 0
+pub sets-whole : (order vs ts bs bits log bits′ log′ : List ℕ) (vs′ ts′ : List ℕ) (r : Walk)
+    → vs ≡ order → ts ≡ replicate {A = ℕ} (length order) 0
     → bs ≡ each (λ i. i) (length bits) (λ i x. 0) bits → length bits ≡ W (length order)
     → Went (entriesOf paper (network (length order)) (λ i. 0 + i)) (W (length order)) still r log log′
-    → state vs′ ts′ ms′ bits′ r ≡ setNet paper (network (length order)) (λ i. 0 + i) 0 (state vs ts ms bs still)
+    → ((j : ℕ) → up (length order) ≤ j
+    → unmarked j vs′ ts′ bits′ r ≡ setNet paper (network (length order)) (λ i. 0 + i) 0 (unmarked j vs ts bs still))
     → Sets order log (r .e) bits′ log′
 unfolding setEntries
-sets-whole order vs ts ms bs bits log bits′ log′ vs′ ts′ ms′ r e₁ e₂ e₃ e₄ l G S =
+sets-whole order vs ts bs bits log bits′ log′ vs′ ts′ r e₁ e₂ e₄ l G S =
     let n : ℕ = length order in
     let q : _≡_ {A = ℕ → ℕ} (λ i. 0 + i) (λ i. i) = fun-ext (λ i. zero-add i) in
-    let s : state vs ts ms bs still ≡ start order = start-is order vs ts ms bs e₁ e₂ e₃ (e₄ ∙ cleared bits (W n) l) in
+    let before : State = unmarked (up n) vs ts bs still in
+    let s : before ≡ start order = start-is order vs ts bs e₁ e₂ (e₄ ∙ cleared bits (W n) l) in
     record {
       count = omega (arith, G .count, length-entries paper (sized n) (λ i. 0 + i));
       bits-are =
-          ap (λ (x : State). x .bits) (S ∙ ap (λ (p : ℕ → ℕ). setNet paper (network n) p 0 (state vs ts ms bs still)) q)
+          ap (λ (x : State). x .bits) (S (up n) (omega arith) ∙ ap (λ (p : ℕ → ℕ). setNet paper (network n) p 0 before) q)
           ∙ ap (λ (x : State). setNet paper (network n) (λ i. i) 0 x .bits) s
           ∙ ap (λ (x : State). x .bits) (sym (run-is-fold paper paper-lawful n (start order)));
       log-is = G .log ∙ ap (λ (p : ℕ → ℕ). overlay log 0 (words (entriesOf paper (network n) p))) q;
     }
 
 -- and the room that it starts with
-pub room-start : (order vs ts ms bs log : List ℕ) → length order ≤ 1024 → length vs ≡ length order → ts ≡ replicate {A = ℕ} (length order) 0
-    → ms ≡ replicate {A = ℕ} (up (length order)) 0 → length bs ≡ W (length order) → length bs ≤ 9217
-    → entryWords * E (length order) ≤ length log
-    → Room 0 (length order) still vs ts ms bs log
-room-start order vs ts ms bs log h lv et em lb few ll =
+pub room-start : (order vs ts ps bs log : List ℕ) → length order ≤ 1024 → length vs ≡ length order → ts ≡ replicate {A = ℕ} (length order) 0
+    → 512 ≤ length ps → length bs ≡ W (length order) → length bs ≤ 9217 → entryWords * E (length order) ≤ length log
+    → Room 0 (length order) still vs ts ps bs log
+room-start order vs ts ps bs log h lv et lp lb few ll =
     let n : ℕ = length order in
     let lt : length ts ≡ n = ap length et ∙ length-replicate {A = ℕ} n 0 in
-    let lm : length ms ≡ up n = ap length em ∙ length-replicate {A = ℕ} (up n) 0 in
     record {
       places = omega arith;
       values-room = omega arith;
       trails-room = omega arith;
-      marks-room = omega arith;
+      pairs-room = lp;
       bits-room = omega arith;
       few = omega arith;
       log-room = omega arith;

@@ -1,9 +1,9 @@
 // The setter after its questions: a whole network on hidden tables of its own.
-// Hidden: the order's entries, the tables, f, c, g, s and the bits. No branch and no index below depends on one of these.
+// Hidden: the order's entries, the tables, f, c, g, s, any and the bits. No branch and no index below depends on one of these.
 ghost use mathlib.Core.Path.{_≡_};
 ghost use Prim.Native.Nat.{_*_, _≤_};
 ghost use lib.ListN.{length, replicate};
-ghost use Rattle.counts.specs.Counts.{up, W, E};
+ghost use Rattle.counts.specs.Counts.{W, E};
 ghost use Rattle.network.specs.Log.{entryWords};
 ghost use Rattle.control_sweeps.specs.Tables.{Below};
 ghost use Rattle.control_order.specs.Inner.{Sets};
@@ -26,12 +26,13 @@ fn set_table(
     order: &[u16],
     vals: &mut [u16],
     trails: &mut [u16],
-    marks: &mut [u8],
+    pairs: &mut [u16],
+    row: &mut [u16; 1024],
     bits: &mut [u8],
     log: &mut [u16],
 ) -> usize
     requires { ⌜ (length (now order) ≤ 1024) × Below 1024 (now order) × (length (now vals) ≡ length (now order))
-        × (now trails ≡ replicate (length (now order)) 0) × (now marks ≡ replicate (up (length (now order))) 0)
+        × (now trails ≡ replicate (length (now order)) 0) × (512 ≤ length (now pairs))
         × (length (now bits) ≡ W (length (now order))) × (length (now bits) ≤ 9217)
         × (entryWords * E (length (now order)) ≤ length (now log)) ⌝ }
     ensures { λ r. ⌜ Sets (now (order .entry)) (now (log .entry)) r (now (bits .exit)) (now (log .exit)) ⌝ }
@@ -43,7 +44,8 @@ fn set_table(
     let w = control_network::set_network(
         vals,
         trails,
-        marks,
+        pairs,
+        row,
         bits,
         0,
         n,
@@ -53,6 +55,7 @@ fn set_table(
             c: 0,
             g: 0,
             s: 0,
+            any: 0,
             e: 0,
             b: 0,
         },
@@ -68,15 +71,16 @@ pub fn set_order(order: &[u16], bits: &mut [u8], log: &mut [u16]) -> usize
     ensures { λ r. ⌜ Sets (now (order .entry)) (now (log .entry)) r (now (bits .exit)) (now (log .exit)) ⌝ }
 {
     let n = order.len();
-    let k = (n + 1) / 2;
     let mut vals = [0u16; 1024];
     let mut trails = [0u16; 1024];
-    let mut marks = [0u8; 512];
+    let mut pairs = [0u16; 512];
+    let mut row = [0u16; 1024];
     set_table(
         order,
         &mut vals[..n],
         &mut trails[..n],
-        &mut marks[..k],
+        &mut pairs,
+        &mut row,
         bits,
         log,
     )

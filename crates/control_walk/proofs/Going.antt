@@ -11,7 +11,7 @@ use Rattle.control_walk.specs.Walks.{Went}
 
 -- an entry written, and n bits passed
 abbrev pub onward : ℕ → Walk → Walk
-onward n w = record { f = w .f; c = w .c; g = w .g; s = w .s; e = w .e + 1; b = w .b + n }
+onward n w = record { f = w .f; c = w .c; g = w .g; s = w .s; any = w .any; e = w .e + 1; b = w .b + n }
 
 pub went-one : (kind o m n : ℕ) (w r : Walk) (before after : List ℕ) → r .e ≡ w .e + 1 → r .b ≡ w .b + n
     → after ≡ overlay before (entryWords * w .e) (words (entry kind o m ∷ [])) → Went (entry kind o m ∷ []) n w r before after

@@ -14,9 +14,13 @@ abbrev pub state : List ℕ → List ℕ → List ℕ → List ℕ → Walk → 
 state values trails marks bits w =
     record { values = values; trails = trails; marks = marks; bits = bits; f = w .f; c = w .c; g = w .g; s = w .s }
 
--- the network of m places from o, whose bits begin at `bit`
+-- the network of m places that lie as `place` says, whose bits begin at `bit`
+abbrev pub lying : (ℕ → ℕ) → ℕ → ℕ → Subnetwork
+lying place m bit = record { place = place; size = m; bit = bit }
+
+-- that of m places from o
 abbrev pub within : ℕ → ℕ → ℕ → Subnetwork
-within o m bit = record { place = λ i. o + i; size = m; bit = bit }
+within o m bit = lying (λ i. o + i) m bit
 
 -- the entries were written behind those before, and the walk went on by them and by n bits
 pub record Went (entries : List Entry) (n : ℕ) (w r : Walk) (before after : List ℕ) : Type 0 where

@@ -1,7 +1,7 @@
 -- The sweeps do what step 4 says.
 -- Assumes nothing.
 use borrow.Author.Needs.{needs}
-use mathlib.Core.Path.{ap}
+use mathlib.Core.Path.{refl, ap}
 use Prim.Native.Nat.{_-_}
 use Rattle.counts.specs.Counts.{up}
 use Rattle.control_walk.specs.declared.Walk.{Walk}
@@ -25,9 +25,6 @@ sub-act-on-2 c = search needs
 act-on-requires-2 : tie.Need-act-on-requires-2
 act-on-requires-2 c κs = search needs
 
-clear-requires : tie.Need-clear-requires
-clear-requires c κs = search needs
-
 write-entry-requires : tie.Need-write-entry-requires
 write-entry-requires c κs = search needs
 
@@ -46,20 +43,17 @@ same-length-2 c = search needs
 same-length-3 : tie.Need-same-length-3
 same-length-3 c = search needs
 
-same-length-4 : tie.Need-same-length-4
-same-length-4 c = search needs
-
 returns : tie.Need-returns
 returns c =
     let b7 = c .before .before .before .before .before .before .before in
     let b11 = b7 .before .before .before .before in
-    let b15 = b11 .before .before .before .before in
-    let b22 = b15 .before .before .before .before .before .before .before in
-    let a = b22 .args in (
+    let b17 = b11 .before .before .before .before .before .before in
+    let a = b17 .args in (
       went-one 4 (a .o) (a .m) (up (a .m) - 1) (a .w) (c .passed .result) (a .log .now) _ (ap (λ (r : Walk). r .e) (c .passed .ensures))
           (ap (λ (r : Walk). r .b) (c .passed .ensures)) (c .before .before .before .write-entry .ensures),
-      step4-is (a .o) (a .m) (a .w .b) (a .vals .now) (a .trails .now) (a .marks .now) (a .bits .now) (a .w) (c .passed .result) (up (a .m) - 1) _ _ _
-          (b15 .act-on .ensures) (b11 .act-on2 .ensures) (b7 .clear .ensures) (c .passed .ensures),
+      λ ms.
+          step4-is (a .o) (a .m) (a .w .b) (a .vals .now) (a .trails .now) ms (a .bits .now) (a .w) (c .passed .result) (up (a .m) - 1) _ _ _
+          (b11 .act-on .ensures) (b7 .act-on2 .ensures) refl (c .passed .ensures),
     )
 
 pub step4-spec : {M : Type 1} → statement M
@@ -71,12 +65,10 @@ step4-spec =
     act-on-requires
     sub-act-on-2
     act-on-requires-2
-    clear-requires
     write-entry-requires
     sub-passed
     passed-requires
     same-length
     same-length-2
     same-length-3
-    same-length-4
     returns)

@@ -5,7 +5,7 @@ use mathlib.Core.Path.{sym, _∙_}
 use Prim.Native.Nat.{ℕ, _+_, _*_, _-_, _≤_, _<_}
 use Rattle.counts.specs.Counts.{up}
 use Rattle.counts.proofs.Rule.{W-none}
-use Rattle.control_walk.specs.Walks.{state}
+use Rattle.control_network.specs.Inner.{unmarked}
 use Rattle.control_network.proofs.Bounds.{tidy-more}
 use Rattle.control_network.proofs.Entries.{went-none, went-as, net-none, entries-none}
 use Rattle.control_network.proofs.Whole.{Entered, Halved, room-top, tidy-top, lengthens-top, room-bottom, tidy-bottom, lengthens-bottom, asks-six, whole-log, whole-state}
@@ -19,16 +19,16 @@ use Rattle.control_layers.proofs.step6.Reads as step6-reads
 use Rattle.control_network.proofs.+set_network.{statement}
 use Rattle.control_network.proofs.+set_network.Tie.{close}
 
-abbrev μ-set-network : Measures 5 set-network-kinds.ps ℕ
-μ-set-network κs a = a .1 .1 .1 .1 .1 .0
+abbrev μ-set-network : Measures 6 set-network-kinds.ps ℕ
+μ-set-network κs a = a .1 .1 .1 .1 .1 .1 .0
 
-abbrev set-network-at : ℕ → In 5 set-network-kinds.ps
+abbrev set-network-at : ℕ → In 6 set-network-kinds.ps
 set-network-at t =
-    and 5 set-network-kinds.ps (is 5 set-network-kinds.ps μ-set-network t) set-network.Pre
+    and 6 set-network-kinds.ps (is 6 set-network-kinds.ps μ-set-network t) set-network.Pre
 
-abbrev set-network-below : ℕ → In 5 set-network-kinds.ps
+abbrev set-network-below : ℕ → In 6 set-network-kinds.ps
 set-network-below t =
-    and 5 set-network-kinds.ps (falls 5 set-network-kinds.ps _<_ μ-set-network t) set-network.Pre
+    and 6 set-network-kinds.ps (falls 6 set-network-kinds.ps _<_ μ-set-network t) set-network.Pre
 
 set-network-returns : (t : ℕ) → set-network-lts.Need-returns (
   enter-reads.Asked,
@@ -42,7 +42,7 @@ set-network-returns t c =
     let a = c .before .before .before .before .before .before .args in
     let h : a .m < 2 = c .if1 .taken in (
       went-as (entries-none (a .o) (a .m) h) (sym (W-none (a .m) h)) (went-none (a .w) (a .log .now)),
-      net-none (a .o) (a .m) (a .w .b) (state (a .vals .now) (a .trails .now) (a .marks .now) (a .bits .now) (a .w)) h,
+      λ j l. net-none (a .o) (a .m) (a .w .b) (unmarked j (a .vals .now) (a .trails .now) (a .bits .now) (a .w)) h,
     )
 
 set-network-add-k : (t : ℕ) → set-network-lts.Need-add-k (
@@ -64,10 +64,10 @@ set-network-enter-requires : (t : ℕ) → set-network-lts.Need-enter-requires (
   step6-reads.Learnt,
 ) (set-network-at t) set-network.Post
 set-network-enter-requires t c κs =
-    let a = c .before .before .before .before .before .before .before .before .before .before .before .args in
-    let p = c .before .before .before .before .before .before .before .before .before .before .before .pre .1 in
-    let two : 2 ≤ a .m = c .before .before .before .before .before .if1 .left in
-    (two, p .0, tidy-more (1024 + 2 * a .w .b) 32768 _ (omega (arith, p .0 .few)) (p .1), p .2)
+    let a = c .before .before .before .before .before .before .before .before .before .before .before .before .args in
+    let p = c .before .before .before .before .before .before .before .before .before .before .before .before .pre .1 in
+    let two : 2 ≤ a .m = c .before .before .before .before .before .before .if1 .left in
+    (two, p .0, tidy-more (1024 + 2 * a .w .b) 32768 (unmarked 0 (a .vals .now) (a .trails .now) (a .bits .now) (a .w)) (omega (arith, p .0 .few)) (p .1), p .2)
 
 set-network-set-network-requires : (t : ℕ) → set-network-lts.Need-set-network-requires (
   enter-reads.Asked,
@@ -78,13 +78,13 @@ set-network-set-network-requires : (t : ℕ) → set-network-lts.Need-set-networ
   step6-reads.Learnt,
 ) (set-network-at t) set-network.Post
 set-network-set-network-requires t c κs =
-    let a = c .before .before .before .before .before .before .before .before .before .before .before .before .before .before .before .before .before .before .before .before .before .before .before .before .before .before .before .args in
-    let p = c .before .before .before .before .before .before .before .before .before .before .before .before .before .before .before .before .before .before .before .before .before .before .before .before .before .before .before .pre .1 in
-    let two : 2 ≤ a .m = c .before .before .before .before .before .before .before .before .before .before .before .before .before .before .before .before .before .before .before .before .before .if1 .left in
-    let x = c .before .before .before .before .before .before .before .before .before .before .before .before .before .before .before .enter in
-    let D₁ : Entered (a .o) (a .m) (a .w) (x .result) (a .vals .now) (a .trails .now) (a .marks .now) (a .bits .now) (a .log .now) (x .last .0) (x .last .1 .0) (x .last .1 .1 .0) (x .last .1 .1 .1 .0) (x .last .1 .1 .1 .1 .1 .1 .0) = record { went = x .ensures .0; is = x .ensures .1; values-kept = x .kept .0; trails-kept = x .kept .1 .0; marks-kept = x .kept .1 .1 .0; bits-kept = x .kept .1 .1 .1 .0; log-kept = x .kept .1 .1 .1 .1 .1 .1 .0 } in (
-      omega (arith, two, c .before .before .before .before .before .before .before .before .before .before .before .before .before .before .before .before .before .before .before .before .before .before .before .before .before .before .before .pre .0),
-      (room-top (a .o) (a .m) (a .w) (a .vals .now) (a .trails .now) (a .marks .now) (a .bits .now) (a .log .now) two (p .0) (p .1) (p .2) D₁, tidy-top (a .o) (a .m) (a .w) (a .vals .now) (a .trails .now) (a .marks .now) (a .bits .now) (a .log .now) two (p .0) (p .1) (p .2) D₁, lengthens-top (a .o) (a .m) (a .w) (a .vals .now) (a .trails .now) (a .marks .now) (a .bits .now) (a .log .now) two (p .0) (p .1) (p .2) D₁),
+    let a = c .before .before .before .before .before .before .before .before .before .before .before .before .before .before .before .before .before .before .before .before .before .before .before .before .before .before .before .before .before .args in
+    let p = c .before .before .before .before .before .before .before .before .before .before .before .before .before .before .before .before .before .before .before .before .before .before .before .before .before .before .before .before .before .pre .1 in
+    let two : 2 ≤ a .m = c .before .before .before .before .before .before .before .before .before .before .before .before .before .before .before .before .before .before .before .before .before .before .before .if1 .left in
+    let x = c .before .before .before .before .before .before .before .before .before .before .before .before .before .before .before .before .enter in
+    let D₁ : Entered (a .o) (a .m) (a .w) (x .result) (a .vals .now) (a .trails .now) (a .pairs .now) (a .bits .now) (a .log .now) (x .last .0) (x .last .1 .0) (x .last .1 .1 .0) (x .last .1 .1 .1 .1 .0) (x .last .1 .1 .1 .1 .1 .1 .1 .0) = record { went = x .ensures .0; is = x .ensures .1; values-kept = x .kept .0; trails-kept = x .kept .1 .0; pairs-kept = x .kept .1 .1 .0; bits-kept = x .kept .1 .1 .1 .1 .0; log-kept = x .kept .1 .1 .1 .1 .1 .1 .1 .0 } in (
+      omega (arith, two, c .before .before .before .before .before .before .before .before .before .before .before .before .before .before .before .before .before .before .before .before .before .before .before .before .before .before .before .before .before .pre .0),
+      (room-top (a .o) (a .m) (a .w) (a .vals .now) (a .trails .now) (a .pairs .now) (a .bits .now) (a .log .now) two (p .0) (p .1) (p .2) D₁, tidy-top (a .o) (a .m) (a .w) (a .vals .now) (a .trails .now) (a .pairs .now) (a .bits .now) (a .log .now) two (p .0) (p .1) (p .2) D₁, lengthens-top (a .o) (a .m) (a .w) (a .vals .now) (a .trails .now) (a .pairs .now) (a .bits .now) (a .log .now) two (p .0) (p .1) (p .2) D₁),
     )
 
 set-network-add-set-network : (t : ℕ) → set-network-lts.Need-add-set-network (
@@ -95,7 +95,7 @@ set-network-add-set-network : (t : ℕ) → set-network-lts.Need-add-set-network
   step6-reads.Asked,
   step6-reads.Learnt,
 ) (set-network-at t) set-network.Post
-set-network-add-set-network t c = omega (arith, c .before .before .before .before .before .before .before .before .before .before .before .before .before .before .before .before .before .before .before .before .before .before .before .before .before .before .before .before .before .before .before .before .before .before .before .before .before .before .before .before .before .before .pre .1 .0 .places)
+set-network-add-set-network t c = omega (arith, c .before .before .before .before .before .before .before .before .before .before .before .before .before .before .before .before .before .before .before .before .before .before .before .before .before .before .before .before .before .before .before .before .before .before .before .before .before .before .before .before .before .before .before .before .before .pre .1 .0 .places)
 
 set-network-sub-set-network : (t : ℕ) → set-network-lts.Need-sub-set-network (
   enter-reads.Asked,
@@ -105,7 +105,7 @@ set-network-sub-set-network : (t : ℕ) → set-network-lts.Need-sub-set-network
   step6-reads.Asked,
   step6-reads.Learnt,
 ) (set-network-at t) set-network.Post
-set-network-sub-set-network t c = omega (arith, c .before .before .before .before .before .before .before .before .before .before .before .before .before .before .before .before .before .before .before .before .before .before .before .before .before .before .before .before .before .before .before .before .before .before .before .before .if1 .left)
+set-network-sub-set-network t c = omega (arith, c .before .before .before .before .before .before .before .before .before .before .before .before .before .before .before .before .before .before .before .before .before .before .before .before .before .before .before .before .before .before .before .before .before .before .before .before .before .before .before .if1 .left)
 
 set-network-set-network-requires-2 : (t : ℕ) → set-network-lts.Need-set-network-requires-2 (
   enter-reads.Asked,
@@ -116,15 +116,15 @@ set-network-set-network-requires-2 : (t : ℕ) → set-network-lts.Need-set-netw
   step6-reads.Learnt,
 ) (set-network-at t) set-network.Post
 set-network-set-network-requires-2 t c κs =
-    let a = c .before .before .before .before .before .before .before .before .before .before .before .before .before .before .before .before .before .before .before .before .before .before .before .before .before .before .before .before .before .before .before .before .before .before .before .before .before .before .before .before .before .before .before .args in
-    let p = c .before .before .before .before .before .before .before .before .before .before .before .before .before .before .before .before .before .before .before .before .before .before .before .before .before .before .before .before .before .before .before .before .before .before .before .before .before .before .before .before .before .before .before .pre .1 in
-    let two : 2 ≤ a .m = c .before .before .before .before .before .before .before .before .before .before .before .before .before .before .before .before .before .before .before .before .before .before .before .before .before .before .before .before .before .before .before .before .before .before .before .before .before .if1 .left in
-    let x = c .before .before .before .before .before .before .before .before .before .before .before .before .before .before .before .before .before .before .before .before .before .before .before .before .before .before .before .before .before .before .before .enter in
-    let D₁ : Entered (a .o) (a .m) (a .w) (x .result) (a .vals .now) (a .trails .now) (a .marks .now) (a .bits .now) (a .log .now) (x .last .0) (x .last .1 .0) (x .last .1 .1 .0) (x .last .1 .1 .1 .0) (x .last .1 .1 .1 .1 .1 .1 .0) = record { went = x .ensures .0; is = x .ensures .1; values-kept = x .kept .0; trails-kept = x .kept .1 .0; marks-kept = x .kept .1 .1 .0; bits-kept = x .kept .1 .1 .1 .0; log-kept = x .kept .1 .1 .1 .1 .1 .1 .0 } in
-    let y = c .before .before .before .before .before .before .before .before .before .before .before .before .before .before .before .set-network in
-    let D₂ : Halved (a .o) (up (a .m)) (x .result) (y .result) (x .last .0) (x .last .1 .0) (x .last .1 .1 .0) (x .last .1 .1 .1 .0) (x .last .1 .1 .1 .1 .1 .1 .0) (y .last .0) (y .last .1 .0) (y .last .1 .1 .0) (y .last .1 .1 .1 .0) (y .last .1 .1 .1 .1 .1 .1 .0) = record { went = y .ensures .0; is = y .ensures .1; values-kept = y .kept .0; trails-kept = y .kept .1 .0; marks-kept = y .kept .1 .1 .0; bits-kept = y .kept .1 .1 .1 .0; log-kept = y .kept .1 .1 .1 .1 .1 .1 .0 } in (
-      omega (arith, two, c .before .before .before .before .before .before .before .before .before .before .before .before .before .before .before .before .before .before .before .before .before .before .before .before .before .before .before .before .before .before .before .before .before .before .before .before .before .before .before .before .before .before .before .pre .0),
-      (room-bottom (a .o) (a .m) (a .w) (a .vals .now) (a .trails .now) (a .marks .now) (a .bits .now) (a .log .now) two (p .0) (p .1) (p .2) D₁ D₂, tidy-bottom (a .o) (a .m) (a .w) (a .vals .now) (a .trails .now) (a .marks .now) (a .bits .now) (a .log .now) two (p .0) (p .1) (p .2) D₁ D₂, lengthens-bottom (a .o) (a .m) (a .w) (a .vals .now) (a .trails .now) (a .marks .now) (a .bits .now) (a .log .now) two (p .0) (p .1) (p .2) D₁ D₂),
+    let a = c .before .before .before .before .before .before .before .before .before .before .before .before .before .before .before .before .before .before .before .before .before .before .before .before .before .before .before .before .before .before .before .before .before .before .before .before .before .before .before .before .before .before .before .before .before .before .args in
+    let p = c .before .before .before .before .before .before .before .before .before .before .before .before .before .before .before .before .before .before .before .before .before .before .before .before .before .before .before .before .before .before .before .before .before .before .before .before .before .before .before .before .before .before .before .before .before .before .pre .1 in
+    let two : 2 ≤ a .m = c .before .before .before .before .before .before .before .before .before .before .before .before .before .before .before .before .before .before .before .before .before .before .before .before .before .before .before .before .before .before .before .before .before .before .before .before .before .before .before .before .if1 .left in
+    let x = c .before .before .before .before .before .before .before .before .before .before .before .before .before .before .before .before .before .before .before .before .before .before .before .before .before .before .before .before .before .before .before .before .before .enter in
+    let D₁ : Entered (a .o) (a .m) (a .w) (x .result) (a .vals .now) (a .trails .now) (a .pairs .now) (a .bits .now) (a .log .now) (x .last .0) (x .last .1 .0) (x .last .1 .1 .0) (x .last .1 .1 .1 .1 .0) (x .last .1 .1 .1 .1 .1 .1 .1 .0) = record { went = x .ensures .0; is = x .ensures .1; values-kept = x .kept .0; trails-kept = x .kept .1 .0; pairs-kept = x .kept .1 .1 .0; bits-kept = x .kept .1 .1 .1 .1 .0; log-kept = x .kept .1 .1 .1 .1 .1 .1 .1 .0 } in
+    let y = c .before .before .before .before .before .before .before .before .before .before .before .before .before .before .before .before .set-network in
+    let D₂ : Halved (a .o) (up (a .m)) (x .result) (y .result) (x .last .0) (x .last .1 .0) (x .last .1 .1 .0) (x .last .1 .1 .1 .1 .0) (x .last .1 .1 .1 .1 .1 .1 .1 .0) (y .last .0) (y .last .1 .0) (y .last .1 .1 .0) (y .last .1 .1 .1 .1 .0) (y .last .1 .1 .1 .1 .1 .1 .1 .0) = record { went = y .ensures .0; is = y .ensures .1; values-kept = y .kept .0; trails-kept = y .kept .1 .0; pairs-kept = y .kept .1 .1 .0; bits-kept = y .kept .1 .1 .1 .1 .0; log-kept = y .kept .1 .1 .1 .1 .1 .1 .1 .0 } in (
+      omega (arith, two, c .before .before .before .before .before .before .before .before .before .before .before .before .before .before .before .before .before .before .before .before .before .before .before .before .before .before .before .before .before .before .before .before .before .before .before .before .before .before .before .before .before .before .before .before .before .before .pre .0),
+      (room-bottom (a .o) (a .m) (a .w) (a .vals .now) (a .trails .now) (a .pairs .now) (a .bits .now) (a .log .now) two (p .0) (p .1) (p .2) D₁ D₂, tidy-bottom (a .o) (a .m) (a .w) (a .vals .now) (a .trails .now) (a .pairs .now) (a .bits .now) (a .log .now) two (p .0) (p .1) (p .2) D₁ D₂, lengthens-bottom (a .o) (a .m) (a .w) (a .vals .now) (a .trails .now) (a .pairs .now) (a .bits .now) (a .log .now) two (p .0) (p .1) (p .2) D₁ D₂),
     )
 
 set-network-step6-requires : (t : ℕ) → set-network-lts.Need-step6-requires (
@@ -136,16 +136,16 @@ set-network-step6-requires : (t : ℕ) → set-network-lts.Need-step6-requires (
   step6-reads.Learnt,
 ) (set-network-at t) set-network.Post
 set-network-step6-requires t c κs =
-    let a = c .before .before .before .before .before .before .before .before .before .before .before .before .before .before .before .before .before .before .before .before .before .before .before .before .before .before .before .before .before .before .before .before .before .before .before .before .before .before .before .before .before .before .before .before .before .before .before .before .before .before .before .before .before .before .before .before .before .before .args in
-    let p = c .before .before .before .before .before .before .before .before .before .before .before .before .before .before .before .before .before .before .before .before .before .before .before .before .before .before .before .before .before .before .before .before .before .before .before .before .before .before .before .before .before .before .before .before .before .before .before .before .before .before .before .before .before .before .before .before .before .before .pre .1 in
-    let two : 2 ≤ a .m = c .before .before .before .before .before .before .before .before .before .before .before .before .before .before .before .before .before .before .before .before .before .before .before .before .before .before .before .before .before .before .before .before .before .before .before .before .before .before .before .before .before .before .before .before .before .before .before .before .before .before .before .before .if1 .left in
-    let x = c .before .before .before .before .before .before .before .before .before .before .before .before .before .before .before .before .before .before .before .before .before .before .before .before .before .before .before .before .before .before .before .before .before .before .before .before .before .before .before .before .before .before .before .before .before .before .enter in
-    let D₁ : Entered (a .o) (a .m) (a .w) (x .result) (a .vals .now) (a .trails .now) (a .marks .now) (a .bits .now) (a .log .now) (x .last .0) (x .last .1 .0) (x .last .1 .1 .0) (x .last .1 .1 .1 .0) (x .last .1 .1 .1 .1 .1 .1 .0) = record { went = x .ensures .0; is = x .ensures .1; values-kept = x .kept .0; trails-kept = x .kept .1 .0; marks-kept = x .kept .1 .1 .0; bits-kept = x .kept .1 .1 .1 .0; log-kept = x .kept .1 .1 .1 .1 .1 .1 .0 } in
-    let y = c .before .before .before .before .before .before .before .before .before .before .before .before .before .before .before .before .before .before .before .before .before .before .before .before .before .before .before .before .before .before .set-network in
-    let D₂ : Halved (a .o) (up (a .m)) (x .result) (y .result) (x .last .0) (x .last .1 .0) (x .last .1 .1 .0) (x .last .1 .1 .1 .0) (x .last .1 .1 .1 .1 .1 .1 .0) (y .last .0) (y .last .1 .0) (y .last .1 .1 .0) (y .last .1 .1 .1 .0) (y .last .1 .1 .1 .1 .1 .1 .0) = record { went = y .ensures .0; is = y .ensures .1; values-kept = y .kept .0; trails-kept = y .kept .1 .0; marks-kept = y .kept .1 .1 .0; bits-kept = y .kept .1 .1 .1 .0; log-kept = y .kept .1 .1 .1 .1 .1 .1 .0 } in
+    let a = c .before .before .before .before .before .before .before .before .before .before .before .before .before .before .before .before .before .before .before .before .before .before .before .before .before .before .before .before .before .before .before .before .before .before .before .before .before .before .before .before .before .before .before .before .before .before .before .before .before .before .before .before .before .before .before .before .before .before .before .before .before .args in
+    let p = c .before .before .before .before .before .before .before .before .before .before .before .before .before .before .before .before .before .before .before .before .before .before .before .before .before .before .before .before .before .before .before .before .before .before .before .before .before .before .before .before .before .before .before .before .before .before .before .before .before .before .before .before .before .before .before .before .before .before .before .before .before .pre .1 in
+    let two : 2 ≤ a .m = c .before .before .before .before .before .before .before .before .before .before .before .before .before .before .before .before .before .before .before .before .before .before .before .before .before .before .before .before .before .before .before .before .before .before .before .before .before .before .before .before .before .before .before .before .before .before .before .before .before .before .before .before .before .before .before .if1 .left in
+    let x = c .before .before .before .before .before .before .before .before .before .before .before .before .before .before .before .before .before .before .before .before .before .before .before .before .before .before .before .before .before .before .before .before .before .before .before .before .before .before .before .before .before .before .before .before .before .before .before .before .enter in
+    let D₁ : Entered (a .o) (a .m) (a .w) (x .result) (a .vals .now) (a .trails .now) (a .pairs .now) (a .bits .now) (a .log .now) (x .last .0) (x .last .1 .0) (x .last .1 .1 .0) (x .last .1 .1 .1 .1 .0) (x .last .1 .1 .1 .1 .1 .1 .1 .0) = record { went = x .ensures .0; is = x .ensures .1; values-kept = x .kept .0; trails-kept = x .kept .1 .0; pairs-kept = x .kept .1 .1 .0; bits-kept = x .kept .1 .1 .1 .1 .0; log-kept = x .kept .1 .1 .1 .1 .1 .1 .1 .0 } in
+    let y = c .before .before .before .before .before .before .before .before .before .before .before .before .before .before .before .before .before .before .before .before .before .before .before .before .before .before .before .before .before .before .before .set-network in
+    let D₂ : Halved (a .o) (up (a .m)) (x .result) (y .result) (x .last .0) (x .last .1 .0) (x .last .1 .1 .0) (x .last .1 .1 .1 .1 .0) (x .last .1 .1 .1 .1 .1 .1 .1 .0) (y .last .0) (y .last .1 .0) (y .last .1 .1 .0) (y .last .1 .1 .1 .1 .0) (y .last .1 .1 .1 .1 .1 .1 .1 .0) = record { went = y .ensures .0; is = y .ensures .1; values-kept = y .kept .0; trails-kept = y .kept .1 .0; pairs-kept = y .kept .1 .1 .0; bits-kept = y .kept .1 .1 .1 .1 .0; log-kept = y .kept .1 .1 .1 .1 .1 .1 .1 .0 } in
     let z = c .before .before .before .before .before .before .before .before .before .before .before .before .before .before .set-network2 in
-    let D₃ : Halved (a .o + up (a .m)) (a .m - up (a .m)) (y .result) (z .result) (y .last .0) (y .last .1 .0) (y .last .1 .1 .0) (y .last .1 .1 .1 .0) (y .last .1 .1 .1 .1 .1 .1 .0) (z .last .0) (z .last .1 .0) (z .last .1 .1 .0) (z .last .1 .1 .1 .0) (z .last .1 .1 .1 .1 .1 .1 .0) = record { went = z .ensures .0; is = z .ensures .1; values-kept = z .kept .0; trails-kept = z .kept .1 .0; marks-kept = z .kept .1 .1 .0; bits-kept = z .kept .1 .1 .1 .0; log-kept = z .kept .1 .1 .1 .1 .1 .1 .0 } in
-    asks-six (a .o) (a .m) (a .w) (a .vals .now) (a .trails .now) (a .marks .now) (a .bits .now) (a .log .now) two (p .0) (p .1) (p .2) D₁ D₂ D₃
+    let D₃ : Halved (a .o + up (a .m)) (a .m - up (a .m)) (y .result) (z .result) (y .last .0) (y .last .1 .0) (y .last .1 .1 .0) (y .last .1 .1 .1 .1 .0) (y .last .1 .1 .1 .1 .1 .1 .1 .0) (z .last .0) (z .last .1 .0) (z .last .1 .1 .0) (z .last .1 .1 .1 .1 .0) (z .last .1 .1 .1 .1 .1 .1 .1 .0) = record { went = z .ensures .0; is = z .ensures .1; values-kept = z .kept .0; trails-kept = z .kept .1 .0; pairs-kept = z .kept .1 .1 .0; bits-kept = z .kept .1 .1 .1 .1 .0; log-kept = z .kept .1 .1 .1 .1 .1 .1 .1 .0 } in
+    asks-six (a .o) (a .m) (a .w) (a .vals .now) (a .trails .now) (a .pairs .now) (a .bits .now) (a .log .now) two (p .0) (p .1) (p .2) D₁ D₂ D₃
 
 set-network-same-length : (t : ℕ) → set-network-lts.Need-same-length (
   enter-reads.Asked,
@@ -155,7 +155,7 @@ set-network-same-length : (t : ℕ) → set-network-lts.Need-same-length (
   step6-reads.Asked,
   step6-reads.Learnt,
 ) (set-network-at t) set-network.Post
-set-network-same-length t c = c .before .before .before .before .before .before .before .before .step6 .kept .0 ∙ c .before .before .before .before .before .before .before .before .before .before .before .before .before .before .before .before .before .before .before .before .before .before .before .set-network2 .kept .0 ∙ c .before .before .before .before .before .before .before .before .before .before .before .before .before .before .before .before .before .before .before .before .before .before .before .before .before .before .before .before .before .before .before .before .before .before .before .before .before .before .before .set-network .kept .0 ∙ c .before .before .before .before .before .before .before .before .before .before .before .before .before .before .before .before .before .before .before .before .before .before .before .before .before .before .before .before .before .before .before .before .before .before .before .before .before .before .before .before .before .before .before .before .before .before .before .before .before .before .before .before .before .before .before .enter .kept .0
+set-network-same-length t c = c .before .before .before .before .before .before .before .before .step6 .kept .0 ∙ c .before .before .before .before .before .before .before .before .before .before .before .before .before .before .before .before .before .before .before .before .before .before .before .set-network2 .kept .0 ∙ c .before .before .before .before .before .before .before .before .before .before .before .before .before .before .before .before .before .before .before .before .before .before .before .before .before .before .before .before .before .before .before .before .before .before .before .before .before .before .before .before .set-network .kept .0 ∙ c .before .before .before .before .before .before .before .before .before .before .before .before .before .before .before .before .before .before .before .before .before .before .before .before .before .before .before .before .before .before .before .before .before .before .before .before .before .before .before .before .before .before .before .before .before .before .before .before .before .before .before .before .before .before .before .before .before .enter .kept .0
 
 set-network-same-length-2 : (t : ℕ) → set-network-lts.Need-same-length-2 (
   enter-reads.Asked,
@@ -165,7 +165,7 @@ set-network-same-length-2 : (t : ℕ) → set-network-lts.Need-same-length-2 (
   step6-reads.Asked,
   step6-reads.Learnt,
 ) (set-network-at t) set-network.Post
-set-network-same-length-2 t c = c .before .before .before .before .before .before .before .before .step6 .kept .1 .0 ∙ c .before .before .before .before .before .before .before .before .before .before .before .before .before .before .before .before .before .before .before .before .before .before .before .set-network2 .kept .1 .0 ∙ c .before .before .before .before .before .before .before .before .before .before .before .before .before .before .before .before .before .before .before .before .before .before .before .before .before .before .before .before .before .before .before .before .before .before .before .before .before .before .before .set-network .kept .1 .0 ∙ c .before .before .before .before .before .before .before .before .before .before .before .before .before .before .before .before .before .before .before .before .before .before .before .before .before .before .before .before .before .before .before .before .before .before .before .before .before .before .before .before .before .before .before .before .before .before .before .before .before .before .before .before .before .before .before .enter .kept .1 .0
+set-network-same-length-2 t c = c .before .before .before .before .before .before .before .before .step6 .kept .1 .0 ∙ c .before .before .before .before .before .before .before .before .before .before .before .before .before .before .before .before .before .before .before .before .before .before .before .set-network2 .kept .1 .0 ∙ c .before .before .before .before .before .before .before .before .before .before .before .before .before .before .before .before .before .before .before .before .before .before .before .before .before .before .before .before .before .before .before .before .before .before .before .before .before .before .before .before .set-network .kept .1 .0 ∙ c .before .before .before .before .before .before .before .before .before .before .before .before .before .before .before .before .before .before .before .before .before .before .before .before .before .before .before .before .before .before .before .before .before .before .before .before .before .before .before .before .before .before .before .before .before .before .before .before .before .before .before .before .before .before .before .before .before .enter .kept .1 .0
 
 set-network-same-length-3 : (t : ℕ) → set-network-lts.Need-same-length-3 (
   enter-reads.Asked,
@@ -175,7 +175,7 @@ set-network-same-length-3 : (t : ℕ) → set-network-lts.Need-same-length-3 (
   step6-reads.Asked,
   step6-reads.Learnt,
 ) (set-network-at t) set-network.Post
-set-network-same-length-3 t c = c .before .before .before .before .before .before .before .before .before .before .before .before .before .before .before .before .before .before .before .before .before .before .before .set-network2 .kept .1 .1 .0 ∙ c .before .before .before .before .before .before .before .before .before .before .before .before .before .before .before .before .before .before .before .before .before .before .before .before .before .before .before .before .before .before .before .before .before .before .before .before .before .before .before .set-network .kept .1 .1 .0 ∙ c .before .before .before .before .before .before .before .before .before .before .before .before .before .before .before .before .before .before .before .before .before .before .before .before .before .before .before .before .before .before .before .before .before .before .before .before .before .before .before .before .before .before .before .before .before .before .before .before .before .before .before .before .before .before .before .enter .kept .1 .1 .0
+set-network-same-length-3 t c = c .before .before .before .before .before .before .before .before .before .before .before .before .before .before .before .before .before .before .before .before .before .before .before .set-network2 .kept .1 .1 .0 ∙ c .before .before .before .before .before .before .before .before .before .before .before .before .before .before .before .before .before .before .before .before .before .before .before .before .before .before .before .before .before .before .before .before .before .before .before .before .before .before .before .before .set-network .kept .1 .1 .0 ∙ c .before .before .before .before .before .before .before .before .before .before .before .before .before .before .before .before .before .before .before .before .before .before .before .before .before .before .before .before .before .before .before .before .before .before .before .before .before .before .before .before .before .before .before .before .before .before .before .before .before .before .before .before .before .before .before .before .before .enter .kept .1 .1 .0
 
 set-network-same-length-4 : (t : ℕ) → set-network-lts.Need-same-length-4 (
   enter-reads.Asked,
@@ -185,7 +185,7 @@ set-network-same-length-4 : (t : ℕ) → set-network-lts.Need-same-length-4 (
   step6-reads.Asked,
   step6-reads.Learnt,
 ) (set-network-at t) set-network.Post
-set-network-same-length-4 t c = c .before .before .before .before .before .before .before .before .step6 .kept .1 .1 .0 ∙ c .before .before .before .before .before .before .before .before .before .before .before .before .before .before .before .before .before .before .before .before .before .before .before .set-network2 .kept .1 .1 .1 .0 ∙ c .before .before .before .before .before .before .before .before .before .before .before .before .before .before .before .before .before .before .before .before .before .before .before .before .before .before .before .before .before .before .before .before .before .before .before .before .before .before .before .set-network .kept .1 .1 .1 .0 ∙ c .before .before .before .before .before .before .before .before .before .before .before .before .before .before .before .before .before .before .before .before .before .before .before .before .before .before .before .before .before .before .before .before .before .before .before .before .before .before .before .before .before .before .before .before .before .before .before .before .before .before .before .before .before .before .before .enter .kept .1 .1 .1 .0
+set-network-same-length-4 t c = c .before .before .before .before .before .before .before .before .step6 .kept .1 .1 .0 ∙ c .before .before .before .before .before .before .before .before .before .before .before .before .before .before .before .before .before .before .before .before .before .before .before .set-network2 .kept .1 .1 .1 .1 .0 ∙ c .before .before .before .before .before .before .before .before .before .before .before .before .before .before .before .before .before .before .before .before .before .before .before .before .before .before .before .before .before .before .before .before .before .before .before .before .before .before .before .before .set-network .kept .1 .1 .1 .1 .0 ∙ c .before .before .before .before .before .before .before .before .before .before .before .before .before .before .before .before .before .before .before .before .before .before .before .before .before .before .before .before .before .before .before .before .before .before .before .before .before .before .before .before .before .before .before .before .before .before .before .before .before .before .before .before .before .before .before .before .before .enter .kept .1 .1 .1 .1 .0
 
 set-network-same-length-5 : (t : ℕ) → set-network-lts.Need-same-length-5 (
   enter-reads.Asked,
@@ -195,7 +195,7 @@ set-network-same-length-5 : (t : ℕ) → set-network-lts.Need-same-length-5 (
   step6-reads.Asked,
   step6-reads.Learnt,
 ) (set-network-at t) set-network.Post
-set-network-same-length-5 t c = c .before .before .before .before .before .before .before .before .step6 .kept .1 .1 .1 .1 .1 .0 ∙ c .before .before .before .before .before .before .before .before .before .before .before .before .before .before .before .before .before .before .before .before .before .before .before .set-network2 .kept .1 .1 .1 .1 .1 .1 .0 ∙ c .before .before .before .before .before .before .before .before .before .before .before .before .before .before .before .before .before .before .before .before .before .before .before .before .before .before .before .before .before .before .before .before .before .before .before .before .before .before .before .set-network .kept .1 .1 .1 .1 .1 .1 .0 ∙ c .before .before .before .before .before .before .before .before .before .before .before .before .before .before .before .before .before .before .before .before .before .before .before .before .before .before .before .before .before .before .before .before .before .before .before .before .before .before .before .before .before .before .before .before .before .before .before .before .before .before .before .before .before .before .before .enter .kept .1 .1 .1 .1 .1 .1 .0
+set-network-same-length-5 t c = c .before .before .before .before .before .before .before .before .step6 .kept .1 .1 .1 .1 .1 .0 ∙ c .before .before .before .before .before .before .before .before .before .before .before .before .before .before .before .before .before .before .before .before .before .before .before .set-network2 .kept .1 .1 .1 .1 .1 .1 .1 .0 ∙ c .before .before .before .before .before .before .before .before .before .before .before .before .before .before .before .before .before .before .before .before .before .before .before .before .before .before .before .before .before .before .before .before .before .before .before .before .before .before .before .before .set-network .kept .1 .1 .1 .1 .1 .1 .1 .0 ∙ c .before .before .before .before .before .before .before .before .before .before .before .before .before .before .before .before .before .before .before .before .before .before .before .before .before .before .before .before .before .before .before .before .before .before .before .before .before .before .before .before .before .before .before .before .before .before .before .before .before .before .before .before .before .before .before .before .before .enter .kept .1 .1 .1 .1 .1 .1 .1 .0
 
 set-network-returns-2 : (t : ℕ) → set-network-lts.Need-returns-2 (
   enter-reads.Asked,
@@ -206,18 +206,17 @@ set-network-returns-2 : (t : ℕ) → set-network-lts.Need-returns-2 (
   step6-reads.Learnt,
 ) (set-network-at t) set-network.Post
 set-network-returns-2 t c =
-    let a = c .before .before .before .before .before .before .before .before .before .before .before .before .before .before .before .before .before .before .before .before .before .before .before .before .before .before .before .before .before .before .before .before .before .before .before .before .before .before .before .before .before .before .before .before .before .before .before .before .before .before .before .before .before .before .before .before .before .before .before .before .before .before .before .before .before .before .before .args in
-    let p = c .before .before .before .before .before .before .before .before .before .before .before .before .before .before .before .before .before .before .before .before .before .before .before .before .before .before .before .before .before .before .before .before .before .before .before .before .before .before .before .before .before .before .before .before .before .before .before .before .before .before .before .before .before .before .before .before .before .before .before .before .before .before .before .before .before .before .before .pre .1 in
-    let two : 2 ≤ a .m = c .before .before .before .before .before .before .before .before .before .before .before .before .before .before .before .before .before .before .before .before .before .before .before .before .before .before .before .before .before .before .before .before .before .before .before .before .before .before .before .before .before .before .before .before .before .before .before .before .before .before .before .before .before .before .before .before .before .before .before .before .before .if1 .left in
-    let x = c .before .before .before .before .before .before .before .before .before .before .before .before .before .before .before .before .before .before .before .before .before .before .before .before .before .before .before .before .before .before .before .before .before .before .before .before .before .before .before .before .before .before .before .before .before .before .before .before .before .before .before .before .before .before .before .enter in
-    let D₁ : Entered (a .o) (a .m) (a .w) (x .result) (a .vals .now) (a .trails .now) (a .marks .now) (a .bits .now) (a .log .now) (x .last .0) (x .last .1 .0) (x .last .1 .1 .0) (x .last .1 .1 .1 .0) (x .last .1 .1 .1 .1 .1 .1 .0) = record { went = x .ensures .0; is = x .ensures .1; values-kept = x .kept .0; trails-kept = x .kept .1 .0; marks-kept = x .kept .1 .1 .0; bits-kept = x .kept .1 .1 .1 .0; log-kept = x .kept .1 .1 .1 .1 .1 .1 .0 } in
-    let y = c .before .before .before .before .before .before .before .before .before .before .before .before .before .before .before .before .before .before .before .before .before .before .before .before .before .before .before .before .before .before .before .before .before .before .before .before .before .before .before .set-network in
-    let D₂ : Halved (a .o) (up (a .m)) (x .result) (y .result) (x .last .0) (x .last .1 .0) (x .last .1 .1 .0) (x .last .1 .1 .1 .0) (x .last .1 .1 .1 .1 .1 .1 .0) (y .last .0) (y .last .1 .0) (y .last .1 .1 .0) (y .last .1 .1 .1 .0) (y .last .1 .1 .1 .1 .1 .1 .0) = record { went = y .ensures .0; is = y .ensures .1; values-kept = y .kept .0; trails-kept = y .kept .1 .0; marks-kept = y .kept .1 .1 .0; bits-kept = y .kept .1 .1 .1 .0; log-kept = y .kept .1 .1 .1 .1 .1 .1 .0 } in
+    let a = c .before .before .before .before .before .before .before .before .before .before .before .before .before .before .before .before .before .before .before .before .before .before .before .before .before .before .before .before .before .before .before .before .before .before .before .before .before .before .before .before .before .before .before .before .before .before .before .before .before .before .before .before .before .before .before .before .before .before .before .before .before .before .before .before .before .before .before .before .before .before .args in
+    let p = c .before .before .before .before .before .before .before .before .before .before .before .before .before .before .before .before .before .before .before .before .before .before .before .before .before .before .before .before .before .before .before .before .before .before .before .before .before .before .before .before .before .before .before .before .before .before .before .before .before .before .before .before .before .before .before .before .before .before .before .before .before .before .before .before .before .before .before .before .before .before .pre .1 in
+    let two : 2 ≤ a .m = c .before .before .before .before .before .before .before .before .before .before .before .before .before .before .before .before .before .before .before .before .before .before .before .before .before .before .before .before .before .before .before .before .before .before .before .before .before .before .before .before .before .before .before .before .before .before .before .before .before .before .before .before .before .before .before .before .before .before .before .before .before .before .before .before .if1 .left in
+    let x = c .before .before .before .before .before .before .before .before .before .before .before .before .before .before .before .before .before .before .before .before .before .before .before .before .before .before .before .before .before .before .before .before .before .before .before .before .before .before .before .before .before .before .before .before .before .before .before .before .before .before .before .before .before .before .before .before .before .enter in
+    let D₁ : Entered (a .o) (a .m) (a .w) (x .result) (a .vals .now) (a .trails .now) (a .pairs .now) (a .bits .now) (a .log .now) (x .last .0) (x .last .1 .0) (x .last .1 .1 .0) (x .last .1 .1 .1 .1 .0) (x .last .1 .1 .1 .1 .1 .1 .1 .0) = record { went = x .ensures .0; is = x .ensures .1; values-kept = x .kept .0; trails-kept = x .kept .1 .0; pairs-kept = x .kept .1 .1 .0; bits-kept = x .kept .1 .1 .1 .1 .0; log-kept = x .kept .1 .1 .1 .1 .1 .1 .1 .0 } in
+    let y = c .before .before .before .before .before .before .before .before .before .before .before .before .before .before .before .before .before .before .before .before .before .before .before .before .before .before .before .before .before .before .before .before .before .before .before .before .before .before .before .before .set-network in
+    let D₂ : Halved (a .o) (up (a .m)) (x .result) (y .result) (x .last .0) (x .last .1 .0) (x .last .1 .1 .0) (x .last .1 .1 .1 .1 .0) (x .last .1 .1 .1 .1 .1 .1 .1 .0) (y .last .0) (y .last .1 .0) (y .last .1 .1 .0) (y .last .1 .1 .1 .1 .0) (y .last .1 .1 .1 .1 .1 .1 .1 .0) = record { went = y .ensures .0; is = y .ensures .1; values-kept = y .kept .0; trails-kept = y .kept .1 .0; pairs-kept = y .kept .1 .1 .0; bits-kept = y .kept .1 .1 .1 .1 .0; log-kept = y .kept .1 .1 .1 .1 .1 .1 .1 .0 } in
     let z = c .before .before .before .before .before .before .before .before .before .before .before .before .before .before .before .before .before .before .before .before .before .before .before .set-network2 in
-    let D₃ : Halved (a .o + up (a .m)) (a .m - up (a .m)) (y .result) (z .result) (y .last .0) (y .last .1 .0) (y .last .1 .1 .0) (y .last .1 .1 .1 .0) (y .last .1 .1 .1 .1 .1 .1 .0) (z .last .0) (z .last .1 .0) (z .last .1 .1 .0) (z .last .1 .1 .1 .0) (z .last .1 .1 .1 .1 .1 .1 .0) = record { went = z .ensures .0; is = z .ensures .1; values-kept = z .kept .0; trails-kept = z .kept .1 .0; marks-kept = z .kept .1 .1 .0; bits-kept = z .kept .1 .1 .1 .0; log-kept = z .kept .1 .1 .1 .1 .1 .1 .0 } in
+    let D₃ : Halved (a .o + up (a .m)) (a .m - up (a .m)) (y .result) (z .result) (y .last .0) (y .last .1 .0) (y .last .1 .1 .0) (y .last .1 .1 .1 .1 .0) (y .last .1 .1 .1 .1 .1 .1 .1 .0) (z .last .0) (z .last .1 .0) (z .last .1 .1 .0) (z .last .1 .1 .1 .1 .0) (z .last .1 .1 .1 .1 .1 .1 .1 .0) = record { went = z .ensures .0; is = z .ensures .1; values-kept = z .kept .0; trails-kept = z .kept .1 .0; pairs-kept = z .kept .1 .1 .0; bits-kept = z .kept .1 .1 .1 .1 .0; log-kept = z .kept .1 .1 .1 .1 .1 .1 .1 .0 } in
     let s = c .before .before .before .before .before .before .before .before .step6 in
-    let S = s .ensures .1 (z .last .1 .1 .0) (a .w .b) in
-    (whole-log (a .o) (a .m) (a .w) (a .vals .now) (a .trails .now) (a .marks .now) (a .bits .now) (a .log .now) two (p .0) (p .1) (p .2) D₁ D₂ D₃ (s .ensures .0) S, whole-state (a .o) (a .m) (a .w) (a .vals .now) (a .trails .now) (a .marks .now) (a .bits .now) (a .log .now) two (p .0) (p .1) (p .2) D₁ D₂ D₃ (s .ensures .0) S)
+    (whole-log (a .o) (a .m) (a .w) (a .vals .now) (a .trails .now) (a .pairs .now) (a .bits .now) (a .log .now) two (p .0) (p .1) (p .2) D₁ D₂ D₃ (s .ensures .0) (λ ms. s .ensures .1 ms (a .w .b)), whole-state (a .o) (a .m) (a .w) (a .vals .now) (a .trails .now) (a .pairs .now) (a .bits .now) (a .log .now) two (p .0) (p .1) (p .2) D₁ D₂ D₃ (s .ensures .0) (λ ms. s .ensures .1 ms (a .w .b)))
 
 pub +set-network-spec : {M : Type 1} → statement M
 +set-network-spec = close μ-set-network λ t. set-network-lts.spec (

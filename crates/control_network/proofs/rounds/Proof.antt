@@ -4,47 +4,51 @@ use native.Mathlib.Omega.{arith}
 use mathlib.Core.Path.{_≡_, refl, ap, _∙_}
 use Prim.Native.Nat.{ℕ, _-_, _≤_, _<_}
 use lib.ListN.{length}
-use mathlib.Core.List.{List, []}
+use mathlib.Core.List.{List}
 use Rattle.counts.specs.Counts.{up}
 use Rattle.network.specs.Wiring.{paper}
 use Rattle.steps.specs.Sequence.{rounds}
 use Rattle.steps.specs.Fold.{roundsOf}
 use Rattle.steps.proofs.Lengths.{length-rounds}
-use Rattle.control_walk.specs.Walks.{state, within, Went}
-use Rattle.control_network.proofs.Bounds.{tidy-rounds}
+use Rattle.control_rows.specs.Rows.{Gathered}
+use Rattle.control_pairs.specs.Pairs.{marksIn, bitsIn}
+use Rattle.control_walk.specs.Walks.{state, lying, Went}
+use Rattle.control_rings.specs.Turns.{Held}
 use Rattle.control_network.proofs.Entries.{went-none, went-then, went-as, rounds-more, round-more}
 use Rattle.control_network.proofs.rounds.Statement.{statement}
 use Rattle.control_network.proofs.rounds.Tie as tie
 
 abbrev Inv-loop : tie.InvT-loop
-Inv-loop vals marks₀ bits₀ o m log₀ k x₀ i₀ marks bits log x i = ((i ≤ up m) × (length marks ≡ length marks₀) × (length bits ≡ length bits₀) × (length log ≡ length log₀)) × Went (rounds i o m) 0 x₀ x log₀ log × ((ts : List ℕ) → state vals ts marks bits x ≡ roundsOf paper (within o m (x₀ .b)) i (state vals ts marks₀ bits₀ x₀))
+Inv-loop row pairs₀ o m log₀ k x₀ i₀ pairs log x i =
+    ((i ≤ up m) × (length pairs ≡ length pairs₀) × (length log ≡ length log₀)) × Went (rounds i o m) 0 x₀ x log₀ log × Held (up m) pairs x
+    × ((place : ℕ → ℕ) (vs ts ms bs : List ℕ) (bit : ℕ) → Gathered place m vs row → up m ≤ length ms
+    → state vs ts (marksIn (up m) pairs ms) (bitsIn bit (up m - 1) pairs bs) x
+    ≡ roundsOf paper (lying place m bit) i (state vs ts (marksIn (up m) pairs₀ ms) (bitsIn bit (up m - 1) pairs₀ bs) x₀))
 
 abbrev μ-loop : tie.MeasureT-loop
-μ-loop vals marks₀ bits₀ o m log₀ k x₀ i₀ marks bits log x i = up m - i
+μ-loop row pairs₀ o m log₀ k x₀ i₀ pairs log x i = up m - i
 
 add-k : tie.Need-add-k Inv-loop μ-loop
 add-k c = omega arith
 
 loop-holds : tie.Need-loop-holds Inv-loop μ-loop
 unfolding rounds roundsOf
-loop-holds c = ((omega arith, refl, refl, refl), went-none (c .before .before .before .before .args .w) (c .before .before .before .before .args .log .now), λ ts. refl)
+loop-holds c =
+    let a = c .before .before in
+    ((omega arith, refl, refl), went-none (a .args .w) (a .args .log .now), a .pre .6, λ place vs ts ms bs bit G long. refl)
 
 round-requires : tie.Need-round-requires Inv-loop μ-loop
 round-requires c κs =
-    let b4 = c .before .before .before .before in
-    let b9 = b4 .before .before .before .before .before in
-    let a = b9 in
-    let l = b4 .loop in
-    let i : l .i < up (a .args .m) = c .before .before .before .loop-test .taken in
-    let G = l .inv .1 in (
+    let a = c .before .before .before .before .before .before in
+    let l = c .before .before .before .loop in
+    let i : l .i < up (a .args .m) = c .before .before .loop-test .taken in (
       a .pre .0,
       a .pre .1,
-      a .pre .2,
-      omega (arith, a .pre .3, l .inv .0 .1),
-      omega (arith, a .pre .4, l .inv .0 .2, G .bit),
-      omega (arith, a .pre .5, l .inv .0 .3, G .count, length-rounds (l .i) (a .args .o) (a .args .m)),
-      rw (l .inv .2 [])
-          (tidy-rounds (within (a .args .o) (a .args .m) (a .args .w .b)) (omega (arith, a .pre .1)) 32768 (omega arith) (l .i) _ (a .pre .6)),
+      omega (arith, a .pre .2, l .inv .0 .1),
+      omega (arith, a .pre .3, l .inv .0 .2, l .inv .1 .count, length-rounds (l .i) (a .args .o) (a .args .m)),
+      a .pre .4,
+      a .pre .5,
+      l .inv .2,
     )
 
 add-i : tie.Need-add-i Inv-loop μ-loop
@@ -55,24 +59,18 @@ loop-less c = omega arith
 
 loop-again : tie.Need-loop-again Inv-loop μ-loop
 loop-again c =
-    let b6 = c .before .before .before .before .before .before in
-    let b10 = b6 .before .before .before .before in
-    let b11 = b10 .before in
-    let b16 = b11 .before .before .before .before .before in
-    let a = b16 in
-    let l = b11 .loop in
-    let r = b6 .round in
-    let G = l .inv .1 in
-    let i : l .i < up (a .args .m) = b10 .loop-test .taken in
-    let b : l .x .b ≡ a .args .w .b = omega (arith, G .bit) in (
-      (omega (arith, i), r .kept .1 .0 ∙ l .inv .0 .1, r .kept .1 .1 .0 ∙ l .inv .0 .2, r .kept .1 .1 .1 .1 .1 .0 ∙ l .inv .0 .3),
+    let a = c .before .before .before .before .before .before .before .before .before .before .before in
+    let l = c .before .before .before .before .before .before .before .before .loop in
+    let r = c .before .before .before .before .round in
+    let i : l .i < up (a .args .m) = c .before .before .before .before .before .before .before .loop-test .taken in (
+      (omega (arith, i), r .kept .1 .0 ∙ l .inv .0 .1, r .kept .1 .1 .1 .1 .0 ∙ l .inv .0 .2),
       went-as (rounds-more (l .i) (a .args .o) (a .args .m)) refl
-          (went-then (omega (arith, i, a .pre .5, length-rounds (l .i) (a .args .o) (a .args .m))) G (r .ensures .0)),
-      λ ts.
-          r .ensures .1 ts
-          ∙ ap (λ n. roundsOf paper (within (a .args .o) (a .args .m) n) 1 (state (a .args .vals .now) ts (l .marks) (l .bits) (l .x))) b
-          ∙ ap (roundsOf paper (within (a .args .o) (a .args .m) (a .args .w .b)) 1) (l .inv .2 ts)
-          ∙ round-more (within (a .args .o) (a .args .m) (a .args .w .b)) (l .i) _,
+          (went-then (omega (arith, i, a .pre .3, length-rounds (l .i) (a .args .o) (a .args .m))) (l .inv .1) (r .ensures .0)),
+      r .ensures .1,
+      λ place vs ts ms bs bit G long.
+          r .ensures .2 place vs ts ms bs bit G long
+          ∙ ap (roundsOf paper (lying place (a .args .m) bit) 1) (l .inv .3 place vs ts ms bs bit G long)
+          ∙ round-more (lying place (a .args .m) bit) (l .i) _,
     )
 
 same-length : tie.Need-same-length Inv-loop μ-loop
@@ -81,14 +79,18 @@ same-length c = c .before .loop .inv .0 .1
 same-length-2 : tie.Need-same-length-2 Inv-loop μ-loop
 same-length-2 c = c .before .loop .inv .0 .2
 
-same-length-3 : tie.Need-same-length-3 Inv-loop μ-loop
-same-length-3 c = c .before .loop .inv .0 .3
-
 returns : tie.Need-returns Inv-loop μ-loop
 returns c =
     let l = c .before .loop in
-    let e : l .i ≡ up (c .before .before .before .before .before .before .args .m) = omega arith in
-    (rw (← e) (l .inv .1), rw (← e) (l .inv .2))
+    let a = c .before .before .before .before .args in
+    let e : l .i ≡ up (a .m) = omega arith in (
+      rw (← e) (l .inv .1),
+      l .inv .2,
+      λ place vs ts ms bs bit G long.
+          l .inv .3 place vs ts ms bs bit G long
+          ∙ ap (λ n. roundsOf paper (lying place (a .m) bit) n
+          (state vs ts (marksIn (up (a .m)) (a .pairs .now) ms) (bitsIn bit (up (a .m) - 1) (a .pairs .now) bs) (a .w))) e,
+    )
 
 pub rounds-spec : {M : Type 1} → statement M
 rounds-spec =
@@ -104,5 +106,4 @@ rounds-spec =
     loop-again
     same-length
     same-length-2
-    same-length-3
     returns)

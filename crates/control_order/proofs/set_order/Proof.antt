@@ -5,42 +5,41 @@ use borrow.Author.Needs.{needs}
 use mathlib.Core.Path.{sym, ap, _∙_}
 use Prim.Native.Nat.{ℕ}
 use lib.ListN.{length}
-use Rattle.counts.specs.Counts.{up}
 use lib.ListN.{length-replicate}
 use Rattle.control_order.proofs.Start.{took}
 use Rattle.control_order.proofs.set_order.Statement.{statement}
 use Rattle.control_order.proofs.set_order.Tie as tie
 
-add-k : tie.Need-add-k
-add-k c = search needs
-
 array-borrow-prefix-vals : tie.Need-array-borrow-prefix-vals
 array-borrow-prefix-vals c = search needs
 
 slice-aggregate-set-table : tie.Need-slice-aggregate-set-table
-slice-aggregate-set-table c = sym (ap length (took 1024 (length (c .before .before .before .before .args .order .now)) (c .before .before .before .before .pre .0)) ∙ length-replicate {A = ℕ} (length (c .before .before .before .before .args .order .now)) 0)
+slice-aggregate-set-table c =
+    let a = c .before .before .before .before in
+    let n = length (a .args .order .now) in
+    sym (ap length (took 1024 n (a .pre .0)) ∙ length-replicate {A = ℕ} n 0)
 
 array-borrow-prefix-trails : tie.Need-array-borrow-prefix-trails
 array-borrow-prefix-trails c = search needs
 
 slice-aggregate-set-table-2 : tie.Need-slice-aggregate-set-table-2
-slice-aggregate-set-table-2 c = sym (ap length (took 1024 (length (c .before .before .before .before .before .args .order .now)) (c .before .before .before .before .before .pre .0)) ∙ length-replicate {A = ℕ} (length (c .before .before .before .before .before .args .order .now)) 0)
-
-array-borrow-prefix-marks : tie.Need-array-borrow-prefix-marks
-array-borrow-prefix-marks c = search needs
+slice-aggregate-set-table-2 c =
+    let a = c .before .before .before .before .before in
+    let n = length (a .args .order .now) in
+    sym (ap length (took 1024 n (a .pre .0)) ∙ length-replicate {A = ℕ} n 0)
 
 slice-aggregate-set-table-3 : tie.Need-slice-aggregate-set-table-3
-slice-aggregate-set-table-3 c = sym (ap length (took 512 (up (length (c .before .before .before .before .before .before .args .order .now))) (omega (arith, c .before .before .before .before .before .before .pre .0))) ∙ length-replicate {A = ℕ} (up (length (c .before .before .before .before .before .before .args .order .now))) 0)
+slice-aggregate-set-table-3 c = search needs
 
 set-table-requires : tie.Need-set-table-requires
 set-table-requires c κs =
-    let a = c .before .before .before .before .before .before .before .before in
+    let a = c .before .before .before .before .before .before .before .before .before in
     let n = length (a .args .order .now) in (
       a .pre .0,
       a .pre .1,
       ap length (took 1024 n (a .pre .0)) ∙ length-replicate {A = ℕ} n 0,
       took 1024 n (a .pre .0),
-      took 512 (up n) (omega (arith, a .pre .0)),
+      omega (arith, length-replicate {A = ℕ} 512 0),
       a .pre .2,
       a .pre .3,
       a .pre .4,
@@ -59,12 +58,10 @@ pub set-order-spec : {M : Type 1} → statement M
 set-order-spec =
     tie.close
     (tie.spec
-    add-k
     array-borrow-prefix-vals
     slice-aggregate-set-table
     array-borrow-prefix-trails
     slice-aggregate-set-table-2
-    array-borrow-prefix-marks
     slice-aggregate-set-table-3
     set-table-requires
     same-length

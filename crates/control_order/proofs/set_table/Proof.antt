@@ -2,34 +2,32 @@
 -- Assumes nothing.
 use native.Mathlib.Omega.{arith}
 use borrow.Author.Needs.{needs}
-use mathlib.Core.Path.{_≡_, _∙_}
+use mathlib.Core.Path.{_≡_, sym, _∙_}
 use Prim.Native.Nat.{ℕ}
 use lib.ListN.{length}
 use Rattle.counts.specs.Counts.{W}
 use lib.ListN.{replicate}
+use Rattle.control_network.proofs.Bounds.{tidy-is}
 use Rattle.control_order.proofs.Start.{cleared, zeros-lengthen, tidy-start, start-is, sets-whole, room-start}
 use Rattle.control_order.proofs.set_table.Statement.{statement}
 use Rattle.control_order.proofs.set_table.Tie as tie
 
 load-requires : tie.Need-load-requires
-load-requires c κs = c .before .before .before .before .before .before .before .pre .2
+load-requires c κs = search needs
 
 clear-requires : tie.Need-clear-requires
 clear-requires c κs = search needs
 
 set-network-requires : tie.Need-set-network-requires
 set-network-requires c κs =
-    let b7 = c .before .before .before .before .before .before .before in
-    let b11 = b7 .before .before .before .before in
-    let b19 = b11 .before .before .before .before .before .before .before .before in
-    let a = b19 in
-    let v = b11 .load in
-    let b = b7 .clear in
+    let a = c .before .before .before .before .before .before .before .before .before .before .before .before .before .before .before .before .before .before .before .before in
+    let v = c .before .before .before .before .before .before .before .before .before .before .before .before .load in
+    let b = c .before .before .before .before .before .before .before .before .clear in
     let o = a .args .order .now in
     let bs : b .last .0 ≡ replicate {A = ℕ} (W (length o)) 0 = b .ensures ∙ cleared (a .args .bits .now) (W (length o)) (a .pre .5) in (
-      room-start o (v .last .0) (a .args .trails .now) (a .args .marks .now) (b .last .0) (a .args .log .now) (a .pre .0) (v .kept .0 ∙ a .pre .2) (a .pre .3)
+      room-start o (v .last .0) (a .args .trails .now) (a .args .pairs .now) (b .last .0) (a .args .log .now) (a .pre .0) (v .kept .0 ∙ a .pre .2) (a .pre .3)
           (a .pre .4) (b .kept .0 ∙ a .pre .5) (omega (arith, b .kept .0, a .pre .6)) (a .pre .7),
-      rw (start-is o (v .last .0) (a .args .trails .now) (a .args .marks .now) (b .last .0) (v .ensures) (a .pre .3) (a .pre .4) bs) (tidy-start o (a .pre .1)),
+      tidy-is 1024 (sym (start-is o (v .last .0) (a .args .trails .now) (b .last .0) (v .ensures) (a .pre .3) bs)) (tidy-start o (a .pre .1)),
       rw (a .pre .3) (zeros-lengthen (length o) (a .pre .0)),
     )
 
@@ -50,16 +48,12 @@ same-length-5 c = search needs
 
 returns : tie.Need-returns
 returns c =
-    let b10 = c .before .before .before .before .before .before .before .before .before .before in
-    let b18 = b10 .before .before .before .before .before .before .before .before in
-    let b22 = b18 .before .before .before .before in
-    let b30 = b22 .before .before .before .before .before .before .before .before in
-    let a = b30 in
-    let v = b22 .load in
-    let b = b18 .clear in
-    let x = b10 .set-network in
-    sets-whole (a .args .order .now) (v .last .0) (a .args .trails .now) (a .args .marks .now) (b .last .0) (a .args .bits .now) (a .args .log .now) _ _ _ _ _ (x .result)
-    (v .ensures) (a .pre .3) (a .pre .4) (b .ensures) (a .pre .5) (x .ensures .0) (x .ensures .1)
+    let a = c .before .before .before .before .before .before .before .before .before .before .before .before .before .before .before .before .before .before .before .before .before .before .before .before .before .before .before .before .before .before .before in
+    let v = c .before .before .before .before .before .before .before .before .before .before .before .before .before .before .before .before .before .before .before .before .before .before .before .load in
+    let b = c .before .before .before .before .before .before .before .before .before .before .before .before .before .before .before .before .before .before .before .clear in
+    let x = c .before .before .before .before .before .before .before .before .before .before .set-network in
+    sets-whole (a .args .order .now) (v .last .0) (a .args .trails .now) (b .last .0) (a .args .bits .now) (a .args .log .now) _ _ _ _ (x .result)
+    (v .ensures) (a .pre .3) (b .ensures) (a .pre .5) (x .ensures .0) (x .ensures .1)
 
 pub set-table-spec : {M : Type 1} → statement M
 set-table-spec =

@@ -2,15 +2,12 @@
 -- Assumes nothing.
 use native.Mathlib.Omega.{arith}
 use borrow.Author.Needs.{needs}
-use mathlib.Core.Bool.{not}
+use mathlib.Core.Path.{refl}
+use Prim.Native.Nat.{_<_}
 use lib.Dec.{eqb}
-use Rattle.counts.specs.Counts.{up}
-use Rattle.steps.specs.Sweeps.{noneMarked}
-use Rattle.control_numbers.proofs.Numbers.{digit-small}
-use Rattle.control_sweeps.proofs.Places.{at-place}
 use Rattle.control_sweeps.proofs.Bounds.{pick-below}
 use Rattle.control_walk.proofs.Going.{went-one}
-use Rattle.control_rings.proofs.Stepping.{step1-is}
+use Rattle.control_rings.proofs.Stepping.{look-small, step1-is}
 use Rattle.control_rings.proofs.step1.Statement.{statement}
 use Rattle.control_rings.proofs.step1.Tie as tie
 
@@ -23,30 +20,22 @@ sub-last c = search needs
 cast-last : tie.Need-cast-last
 cast-last c = search needs
 
-any-marked-requires : tie.Need-any-marked-requires
-any-marked-requires c κs = search needs
-
 pick-requires : tie.Need-pick-requires
-pick-requires c κs = rw (c .any-marked .ensures) (digit-small (not (noneMarked (c .before .before .before .before .args .marks .now) (up (c .before .before .before .before .args .m)))))
+pick-requires c κs = search needs
 
 pick-requires-2 : tie.Need-pick-requires-2
-pick-requires-2 c κs = rw (c .before .any-marked .ensures) (digit-small (not (noneMarked (c .before .before .before .before .before .args .marks .now) (up (c .before .before .before .before .before .args .m)))))
+pick-requires-2 c κs = search needs
 
-look-at-requires : tie.Need-look-at-requires
-look-at-requires c κs =
-    let a = c .before .before .before .before .before .before in (
-      omega arith,
-      omega arith,
-      a .pre .2,
-      at-place 32768 (a .args .vals .now) (a .args .o) (a .pre .5),
-      rw (c .before .pick .ensures) (pick-below (eqb (c .before .before .any-marked .result) 1) (a .pre .7) (omega arith)),
-    )
+look-in-requires : tie.Need-look-in-requires
+look-in-requires c κs =
+    let a = c .before .before .before in
+    (omega arith, omega arith, rw (c .before .pick .ensures) (pick-below (eqb (a .args .w .any) 1) (a .pre .4) (omega arith)))
 
 write-entry-requires : tie.Need-write-entry-requires
 write-entry-requires c κs = search needs
 
-add-t14 : tie.Need-add-t14
-add-t14 c = search needs
+add-t12 : tie.Need-add-t12
+add-t12 c = search needs
 
 same-length : tie.Need-same-length
 same-length c = search needs
@@ -56,13 +45,19 @@ returns c =
     let b4 = c .before .before .before .before in
     let b5 = b4 .before in
     let b6 = b5 .before in
-    let b7 = b6 .before in
-    let b11 = b7 .before .before .before .before in
-    let a = b11 .args in (
+    let b8 = b6 .before .before in
+    let a = b8 .args in
+    let f : b6 .pick .result < 32768 = rw (b6 .pick .ensures) (pick-below (eqb (a .w .any) 1) (b8 .pre .4) (omega arith)) in (
       went-one 1 (a .o) (a .m) 0 (a .w) _ (a .log .now) _ (omega arith) (omega arith) (c .before .before .write-entry .ensures),
-      λ ts bs bit.
-          step1-is (a .o) (a .m) bit (a .vals .now) ts (a .marks .now) bs (a .w) (b7 .any-marked .result) (b6 .pick .result) (b5 .pick2 .result)
-          (b4 .look-at .result) (b7 .any-marked .ensures) (b6 .pick .ensures) (b5 .pick2 .ensures) (b4 .look-at .ensures),
+      refl,
+      (
+        f,
+        rw (b5 .pick2 .ensures) (pick-below (eqb (a .w .any) 1) (b8 .pre .5) (omega arith)),
+        rw (b4 .look-in .ensures) (look-small (a .m) (a .row .now) (b6 .pick .result) (b8 .pre .3) f),
+      ),
+      λ place vs ts ms bs bit G any.
+          step1-is place (a .m) bit vs ts (a .w) (a .row .now) ms bs (b6 .pick .result) (b5 .pick2 .result) (b4 .look-in .result) G any
+          (b6 .pick .ensures) (b5 .pick2 .ensures) (b4 .look-in .ensures),
     )
 
 pub step1-spec : {M : Type 1} → statement M
@@ -72,11 +67,10 @@ step1-spec =
     add-k
     sub-last
     cast-last
-    any-marked-requires
     pick-requires
     pick-requires-2
-    look-at-requires
+    look-in-requires
     write-entry-requires
-    add-t14
+    add-t12
     same-length
     returns)

@@ -2,6 +2,9 @@
 -- Assumes nothing.
 use native.Mathlib.Omega.{arith}
 use borrow.Author.Needs.{needs}
+use mathlib.Core.Path.{refl}
+use Rattle.counts.specs.Counts.{up}
+use Rattle.control_sweeps.proofs.Bounds.{other-below, seek-below}
 use Rattle.control_walk.proofs.Going.{went-one}
 use Rattle.control_rings.proofs.Stepping.{step2-is}
 use Rattle.control_rings.proofs.step2.Statement.{statement}
@@ -16,8 +19,10 @@ cast-k c = search needs
 other-of-requires : tie.Need-other-of-requires
 other-of-requires c κs = search needs
 
-seek-for-requires : tie.Need-seek-for-requires
-seek-for-requires c κs = search needs
+seek-in-requires : tie.Need-seek-in-requires
+seek-in-requires c κs =
+    let a = c .before .before in
+    (omega arith, omega arith, rw (c .other-of .ensures) (other-below _ _ (omega arith) (a .pre .4)), a .pre .3)
 
 write-entry-requires : tie.Need-write-entry-requires
 write-entry-requires c κs = search needs
@@ -30,11 +35,16 @@ same-length c = search needs
 
 returns : tie.Need-returns
 returns c =
-    let a = c .before .before .before .before .before .before .before .before .args in (
+    let b4 = c .before .before .before .before in
+    let b5 = b4 .before in
+    let b7 = b5 .before .before in
+    let a = b7 .args in (
       went-one 2 (a .o) (a .m) 0 (a .w) _ (a .log .now) _ (omega arith) (omega arith) (c .before .before .write-entry .ensures),
-      λ ts ms bs bit.
-          step2-is (a .o) (a .m) bit (a .vals .now) ts ms bs (a .w) (c .before .before .before .before .before .other-of .result) (c .before .before .before .before .seek-for .result) (c .before .before .before .before .before .other-of .ensures)
-          (c .before .before .before .before .seek-for .ensures),
+      refl,
+      (refl, refl, rw (b4 .seek-in .ensures) (seek-below (λ i. i) (a .m) (a .row .now) (b5 .other-of .result) (omega arith) (rw (b5 .other-of .ensures) (other-below _ _ (omega arith) (b7 .pre .4))))),
+      λ place vs ts ms bs bit G.
+          step2-is place (a .m) bit vs ts (a .w) (a .row .now) ms bs (b5 .other-of .result) (b4 .seek-in .result) G (b5 .other-of .ensures)
+          (b4 .seek-in .ensures),
     )
 
 pub step2-spec : {M : Type 1} → statement M
@@ -44,7 +54,7 @@ step2-spec =
     add-k
     cast-k
     other-of-requires
-    seek-for-requires
+    seek-in-requires
     write-entry-requires
     add-t9
     same-length

@@ -2,13 +2,14 @@
 -- Assumes nothing.
 use native.Mathlib.Omega.{arith}
 use borrow.Author.Needs.{needs}
-use mathlib.Core.Path.{ap, _∙_}
-use Prim.Native.Nat.{_≤_}
+use mathlib.Core.Path.{_≡_, ap, _∙_}
+use Prim.Native.Nat.{_≤_, _<_}
 use Rattle.counts.specs.Counts.{up}
 use Rattle.control_sweeps.proofs.Bounds.{pair-within}
+use Rattle.control_pairs.proofs.Held.{settled-numbered}
 use Rattle.control_walk.specs.declared.Walk.{Walk}
 use Rattle.control_walk.proofs.Going.{went-one}
-use Rattle.control_rings.proofs.Stepping.{low-within, step3-is}
+use Rattle.control_rings.proofs.Stepping.{low-within, turned-small, any-after, step3-is}
 use Rattle.control_rings.proofs.step3.Statement.{statement}
 use Rattle.control_rings.proofs.step3.Tie as tie
 
@@ -27,23 +28,22 @@ cast-below c = search needs
 below-requires : tie.Need-below-requires
 below-requires c κs = search needs
 
-cast-switch-of : tie.Need-cast-switch-of
-cast-switch-of c = search needs
+settle-requires : tie.Need-settle-requires
+settle-requires c κs =
+    let a = c .before .before .before .before .before in
+    let p = c .before .before .pair-of in
+    let w : p .result ≤ a .args .w .s = rw (p .ensures) (pair-within (up (a .args .m)) (a .args .w .s)) in
+    (omega arith, omega arith, a .pre .2, omega (arith, a .pre .5), c .before .below .ensures .1, a .pre .4 .numbered)
 
-switch-of-requires : tie.Need-switch-of-requires
-switch-of-requires c κs =
-    let a = c .before .before .before .before .before .before in
-    let p : c .before .before .pair-of .result ≤ a .args .w .s = rw (c .before .before .pair-of .ensures) (pair-within (up (a .args .m)) (a .args .w .s)) in
-    (omega arith, omega arith, omega (arith, a .pre .6))
+cast-below-2 : tie.Need-cast-below-2
+cast-below-2 c = search needs
 
-cast-store-at : tie.Need-cast-store-at
-cast-store-at c = search needs
-
-store-at-requires : tie.Need-store-at-requires
-store-at-requires c κs = search needs
-
-mark-pair-requires : tie.Need-mark-pair-requires
-mark-pair-requires c κs = search needs
+below-requires-2 : tie.Need-below-requires-2
+below-requires-2 c κs =
+    let a = c .before .before .before .before .before .before .before .before in
+    let p = c .before .before .before .before .before .pair-of in
+    let w : p .result ≤ a .args .w .s = rw (p .ensures) (pair-within (up (a .args .m)) (a .args .w .s)) in
+    (omega (arith, a .pre .5), omega (arith, a .pre .1))
 
 write-entry-requires : tie.Need-write-entry-requires
 write-entry-requires c κs = search needs
@@ -53,14 +53,13 @@ cast-turn c = search needs
 
 turn-requires : tie.Need-turn-requires
 turn-requires c κs =
-    let b6 = c .before .before .before .before .before .before in
-    let b18 = b6 .before .before .before .before .before .before .before .before .before .before .before .before in
-    let a = b18 in (
+    let b8 = c .before .before .before .before .before .before .before .before in
+    let a = b8 .before .before .before .before .before .before in (
       omega (arith, a .pre .1),
-      omega (arith, a .pre .1, low-within (b6 .mark-pair .ensures)),
-      a .pre .6,
-      a .pre .7,
-      omega (arith, a .pre .4, a .good .1 .1 .1 .1 .0 .0),
+      omega (arith, a .pre .1, low-within (b8 .settle .ensures)),
+      a .pre .5,
+      a .pre .4 .c-below,
+      omega (arith, a .pre .3, a .good .1 .1 .1 .0 .0),
     )
 
 same-length : tie.Need-same-length
@@ -69,24 +68,33 @@ same-length c = search needs
 same-length-2 : tie.Need-same-length-2
 same-length-2 c = search needs
 
-same-length-3 : tie.Need-same-length-3
-same-length-3 c = search needs
-
 returns : tie.Need-returns
 returns c =
-    let b7 = c .before .before .before .before .before .before .before in
-    let b11 = b7 .before .before .before .before in
+    let b6 = c .before .before .before .before .before .before in
+    let b9 = b6 .before .before .before in
+    let b11 = b9 .before .before in
     let b12 = b11 .before in
-    let b14 = b12 .before .before in
-    let b15 = b14 .before in
-    let b19 = b15 .before .before .before .before in
-    let a = b19 .args in (
+    let b15 = b12 .before .before .before in
+    let a = b15 .args in
+    let few : up (a .m) ≤ 512 = omega (arith, b15 .pre .1) in
+    let H = b15 .pre .4 in
+    let S = b9 .settle .ensures in
+    let bit : b11 .below .result < 2 = b11 .below .ensures .1 in
+    let small =
+    turned-small (up (a .m)) (b9 .settle .result) (a .w .any) (a .w) (omega arith) (omega (arith, low-within S)) (b15 .pre .5) (H .c-below)
+    in
+    let any = any-after (a .w .any) (b6 .below2 .result) S few (b15 .pre .2) bit (H .numbered) (H .any-is) (b6 .below2 .ensures .0) in (
       went-one 3 (a .o) (a .m) 0 (a .w) (c .turn .result) (a .log .now) _ (ap (λ (r : Walk). r .e) (c .turn .ensures)) (ap (λ (r : Walk). r .b) (c .turn .ensures) ∙ omega arith)
           (c .before .before .before .write-entry .ensures),
-      λ vs ts.
-          step3-is (a .o) (a .m) (a .w .b) vs ts (a .marks .now) (a .bits .now) (a .w) (c .turn .result) (b15 .pair-of .result) (b12 .switch-of .result)
-          (b14 .below .result) (b7 .mark-pair .result) _ _ (b15 .pair-of .ensures) (b12 .switch-of .ensures) (b14 .below .ensures .0)
-          (b11 .store-at .ensures) (b7 .mark-pair .ensures) (c .turn .ensures),
+      record {
+        numbered = settled-numbered S few (b15 .pre .2) bit (H .numbered);
+        any-is = ap (λ (r : Walk). r .any) (c .turn .ensures) ∙ any;
+        f-below = rw (c .turn .ensures) (small .0);
+        c-below = rw (c .turn .ensures) (small .1);
+      },
+      λ place vs ts ms bs bit₀ long.
+          step3-is place (a .m) bit₀ vs ts (a .w) (c .turn .result) (b12 .pair-of .result) (b11 .below .result) (b9 .settle .result) _ (a .pairs .now) _ ms bs few (b15 .pre .2)
+          bit (H .numbered) long (b12 .pair-of .ensures) (b11 .below .ensures .0) S (c .turn .ensures),
     )
 
 pub step3-spec : {M : Type 1} → statement M
@@ -98,15 +106,12 @@ step3-spec =
     pair-of-requires
     cast-below
     below-requires
-    cast-switch-of
-    switch-of-requires
-    cast-store-at
-    store-at-requires
-    mark-pair-requires
+    settle-requires
+    cast-below-2
+    below-requires-2
     write-entry-requires
     cast-turn
     turn-requires
     same-length
     same-length-2
-    same-length-3
     returns)

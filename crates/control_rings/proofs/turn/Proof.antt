@@ -40,13 +40,13 @@ pick-requires-2 c κs =
     let a = c .before .before .before .before .args in
     rw (c .before .before .equal .ensures, c .before .below .ensures .0, again-is (eqb (c .before .before .before .other-of .result) (a .w .c)) (ltb (a .low) (a .k))) (digit-small (cond (eqb (c .before .before .before .other-of .result) (a .w .c)) (ltb (a .low) (a .k)) false))
 
-add-t8 : tie.Need-add-t8
-add-t8 c = search needs
+add-t9 : tie.Need-add-t9
+add-t9 c = search needs
 
 returns : tie.Need-returns
 returns c =
     let a = c .before .before .before .before .before .before .args in
-    turned-is (a .k) (a .low) (a .w) (c .before .before .before .before .before .other-of .result) (c .before .before .before .before .equal .result) (c .before .before .before .below .result) (c .before .before .pick .result) (c .before .pick2 .result)
+    turned-is (a .k) (a .low) (a .any) (a .w) (c .before .before .before .before .before .other-of .result) (c .before .before .before .before .equal .result) (c .before .before .before .below .result) (c .before .before .pick .result) (c .before .pick2 .result)
     (c .before .before .before .before .before .other-of .ensures) (c .before .before .before .before .equal .ensures) (c .before .before .before .below .ensures .0) (c .before .before .pick .ensures) (c .before .pick2 .ensures)
 
 pub turn-spec : {M : Type 1} → statement M
@@ -59,5 +59,5 @@ turn-spec =
     mul-again
     pick-requires
     pick-requires-2
-    add-t8
+    add-t9
     returns)

@@ -8,39 +8,47 @@ use Prim.Native.Nat.{_+_, _-_, _≤_}
 use lib.Dec.{ltb, eqb}
 use lib.ListN.{getD}
 use Rattle.control_numbers.proofs.Numbers.{digit-small, byte-small}
-use Rattle.control_sweeps.proofs.Places.{under-test, test-below, Best, seek-none, seek-step, found-within, seek-all}
-use Rattle.control_sweeps.proofs.seek_for.Statement.{statement}
-use Rattle.control_sweeps.proofs.seek_for.Tie as tie
+use Rattle.control_rows.proofs.Counting.{under-test, test-below, Best, seek-none, seek-step, found-within, seek-all}
+use Rattle.control_rows.proofs.seek_in.Statement.{statement}
+use Rattle.control_rows.proofs.seek_in.Tie as tie
 
 abbrev Inv-loop : tie.InvT-loop
-Inv-loop xs o m a best₀ c₀ i₀ best c i = ((i ≤ m) × (c ≡ i + 1)) × Best xs o a i best
+Inv-loop row m a r best₀ c₀ i₀ best c i = ((i ≤ r) × (c ≡ i + 1)) × Best row a i best
 
 abbrev μ-loop : tie.MeasureT-loop
-μ-loop xs o m a best₀ c₀ i₀ best c i = m - i
+μ-loop row m a r best₀ c₀ i₀ best c i = r - i
+
+add-r : tie.Need-add-r Inv-loop μ-loop
+add-r c = omega arith
+
+mul-r : tie.Need-mul-r Inv-loop μ-loop
+mul-r c = omega arith
+
+returns : tie.Need-returns Inv-loop μ-loop
+returns c = absurd (omega arith)
 
 loop-holds : tie.Need-loop-holds Inv-loop μ-loop
-loop-holds c = ((omega arith, omega arith), seek-none (c .before .args .xs .now) (c .before .args .o) (c .before .args .a))
-
-add-mask : tie.Need-add-mask Inv-loop μ-loop
-add-mask c = omega arith
+loop-holds c = ((omega arith, omega arith), seek-none _ _)
 
 mul-mask : tie.Need-mul-mask Inv-loop μ-loop
 mul-mask c = omega arith
 
-shared-slice-read-mask : tie.Need-shared-slice-read-mask Inv-loop μ-loop
-shared-slice-read-mask c = omega arith
+element-copy-out-mask : tie.Need-element-copy-out-mask Inv-loop μ-loop
+element-copy-out-mask c = omega arith
 
 cast-mask : tie.Need-cast-mask Inv-loop μ-loop
-cast-mask c = omega (arith, byte-small (eqb (getD (c .before .before .before .before .args .xs .now) (c .before .before .before .before .args .o + c .before .before .loop .i) 0) (c .before .before .before .before .args .a)))
+cast-mask c = search needs
 
 mask-requires : tie.Need-mask-requires Inv-loop μ-loop
-mask-requires c κs = omega (arith, byte-small (eqb (getD (c .before .before .before .before .args .xs .now) (c .before .before .before .before .args .o + c .before .before .loop .i) 0) (c .before .before .before .before .args .a)))
+mask-requires c κs =
+    let a = c .before .before .before .before .args in
+    byte-small (eqb (getD (a .row .now) (c .before .before .loop .i) 0) (a .a))
 
 most-requires : tie.Need-most-requires Inv-loop μ-loop
 most-requires c κs =
     let l = c .before .before .before .loop in
     let a = c .before .before .before .before .before .args in
-    let b = eqb (getD (a .xs .now) (a .o + l .i) 0) (a .a) in
+    let b = eqb (getD (a .row .now) (l .i) 0) (a .a) in
     (rw (c .mask .ensures, under-test b (l .c) (omega arith)) (test-below b (l .c) 32768 (omega arith)), omega (arith, l .inv .1 .small))
 
 add-c : tie.Need-add-c Inv-loop μ-loop
@@ -56,10 +64,10 @@ loop-again : tie.Need-loop-again Inv-loop μ-loop
 loop-again c =
     let l = c .before .before .before .before .loop in
     let a = c .before .before .before .before .before .before .args in
-    let b = eqb (getD (a .xs .now) (a .o + l .i) 0) (a .a) in (
+    let b = eqb (getD (a .row .now) (l .i) 0) (a .a) in (
       (omega arith, omega arith),
       rw (c .most .ensures)
-          (seek-step (a .xs .now) (a .o) (a .a) (l .i) (l .best) _ (l .inv .1)
+          (seek-step (a .row .now) (a .a) (l .i) (l .best) _ (l .inv .1)
           (rw (c .before .mask .ensures, under-test b (l .c) (omega arith), l .inv .0 .1))),
     )
 
@@ -72,23 +80,26 @@ sub-pick c = rw (c .at-least .ensures) (found-within (c .before .before .loop .b
 pick-requires : tie.Need-pick-requires Inv-loop μ-loop
 pick-requires c κs = rw (c .at-least .ensures) (digit-small (not (ltb (c .before .before .loop .best) 1)))
 
-returns : tie.Need-returns Inv-loop μ-loop
-returns c =
+returns-2 : tie.Need-returns-2 Inv-loop μ-loop
+returns-2 c =
     let l = c .before .before .before .loop in
-    let a = c .before .before .before .before .before .args in
-    let e : l .i ≡ a .m = omega arith in
-    rw (c .pick .ensures, c .before .at-least .ensures, ← e) (seek-all (a .xs .now) (a .o) (a .a) (l .i) (l .best) (l .inv .1))
+    let s = c .before .before .before .before .before in
+    let a = s .args in
+    rw (c .pick .ensures, c .before .at-least .ensures)
+    (seek-all (a .row .now) (a .m) (a .a) (l .i) (l .best) (omega arith) (omega arith) (s .pre .3) (l .inv .1))
 
-pub seek-for-spec : {M : Type 1} → statement M
-seek-for-spec =
+pub seek-in-spec : {M : Type 1} → statement M
+seek-in-spec =
     tie.close
     (tie.spec
     Inv-loop
     μ-loop
+    add-r
+    mul-r
+    returns
     loop-holds
-    add-mask
     mul-mask
-    shared-slice-read-mask
+    element-copy-out-mask
     cast-mask
     mask-requires
     most-requires
@@ -99,4 +110,4 @@ seek-for-spec =
     at-least-requires
     sub-pick
     pick-requires
-    returns)
+    returns-2)

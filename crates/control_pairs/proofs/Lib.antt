@@ -1,0 +1,3 @@
+pub mod Lowest
+pub mod Settling
+pub mod Held
