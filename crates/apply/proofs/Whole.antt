@@ -1,11 +1,11 @@
 -- From the run of the whole network to what a call comes to.
 -- Assumes nothing.
 use mathlib.Core.Path.{_≡_, refl, sym, ap, _∙_}
-use mathlib.Core.List.{List, [], reverse}
+use mathlib.Core.List.{List, []}
 use Prim.Native.Nat.{ℕ, zero, suc, _+_, _-_, _*_, _≤_, _<_}
 use native.Mathlib.Nat.{zero-add}
 use native.Mathlib.Omega.{arith}
-use lib.ListN.{length, drop}
+use lib.ListN.{length, getD}
 use Rattle.answers.specs.declared.Answer.{Answer}
 use Rattle.answers.specs.Answers.{accepted}
 use Rattle.answers.specs.Questions.{Verdict, allYes, noAt, firstNo}
@@ -18,9 +18,13 @@ use Rattle.network.specs.Wiring.{paper}
 use Rattle.network.specs.Network.{network}
 use Rattle.network.specs.Move.{forward, backward}
 use Rattle.network.specs.Blocks.{cut, bytesOf, moved, movedBack}
-use Rattle.network.specs.Log.{Entry, words, switches, applyEntries, inverseEntries}
-use Rattle.network.proofs.Blocks.{bytes-cut}
-use Rattle.apply_layers.specs.Ran.{Lent, Ran, bitsBack}
+use Rattle.network.specs.Log.{Entry, words, applyEntries, inverseEntries, runFrom, runApply, runInverse}
+use Rattle.network.proofs.Paper.{paper-lawful}
+use Rattle.network.proofs.Blocks.{length-cut, bytes-cut}
+use Rattle.network.proofs.Run.{run-apply}
+use Rattle.network.proofs.RunBack.{run-inverse}
+use Rattle.network.proofs.Shift.{shifted-none}
+use Rattle.apply_layers.specs.Ran.{Lent, Ran, bitAt, bitBack}
 use Rattle.apply_questions.specs.Questions.{applyQuestions}
 use Rattle.apply.specs.Calls.{applyCall, inverseCall}
 use Rattle.apply_questions.proofs.Asked.{Fits, passes, asked-well}
@@ -31,20 +35,16 @@ turned-away : (v : Verdict) (count : ℕ) (words b entries l : List ℕ) {a : An
 turned-away allYes count words b entries l e h = absurd (h (ap (λ a. a .number) e))
 turned-away (noAt q p) count words b entries l e h = rw e
 
--- every question got a yes, and the network of n places has run
-settles : (n width : ℕ) {b l b′ l′ : List ℕ} {rule : List (List ℕ) → List (List ℕ)} {es : List Entry} {count : ℕ} {a : Answer} (v : Verdict) → v ≡ allYes
-    → a ≡ accepted count → count ≡ W n → length b ≡ n * width → length b′ ≡ length b → Ran width n rule es 0 b l b′ l′
-    → logged a b′ l′ ≡ settledLogged v (W n) (bytesOf (rule (cut width n b))) b (words es) l
-settles n width {b} {l} {b′} {l′} {rule} {es} v asked told all filled kept ran =
-    let bytes : bytesOf (rule (cut width n b)) ≡ b′ = ap bytesOf (sym (ran .blocks)) ∙ bytes-cut width n b′ (kept ∙ filled) in
-    logged-accepted v (W n) (bytesOf (rule (cut width n b))) b (words es) l
+-- every question got a yes, and all entries of n places were run: what they leave is `after`
+settles : (n width : ℕ) {b l b′ l′ : List ℕ} {bit : ℕ → ℕ} {es : List Entry} {count : ℕ} {a : Answer} (v : Verdict) (after : List (List ℕ)) → v ≡ allYes
+    → a ≡ accepted count → count ≡ W n → length b ≡ n * width → length b′ ≡ length b → runFrom [] bit 0 es (cut width n b) ≡ after
+    → Ran width n bit es 0 0 b l b′ l′ → logged a b′ l′ ≡ settledLogged v (W n) (bytesOf after) b (words es) l
+settles n width {b} {l} {b′} {l′} {bit} {es} v after asked told all filled kept is ran =
+    let bytes : bytesOf after ≡ b′ = ap bytesOf (sym (ran .blocks ∙ is)) ∙ bytes-cut width n b′ (kept ∙ filled) in
+    logged-accepted v (W n) (bytesOf after) b (words es) l
     asked (told ∙ ap accepted all)
-    (sym bytes ∙ sym (overlay-whole b (bytesOf (rule (cut width n b))) (ap length bytes ∙ kept)))
-    (ran .logged)
-
--- the whole network starts at place 0
-from-0 : _≡_ {A = ℕ → ℕ} (λ i. 0 + i) (λ i. i)
-from-0 = λ j i. zero-add i j
+    (sym bytes ∙ sym (overlay-whole b (bytesOf after) (ap length bytes ∙ kept)))
+    (ran .logged ∙ ap (λ t. overlay l 0 (words t)) (shifted-none es))
 
 module _ (n width : ℕ) (b bits l : List ℕ) where
   abbrev verdict : Verdict
@@ -72,15 +72,16 @@ module _ (n width : ℕ) (b bits l : List ℕ) where
           record { places = omega arith; wide = f .low; narrow = f .high; whole = sym (f .whole); enough = omega arith; room = omega arith; settings = f .settings }
 
       module _ {b′ l′ : List ℕ} {count : ℕ} {a : Answer} (reports : a ≡ accepted count) (counted : count ≡ 0 + W n) (kept : length b′ ≡ length b) where
-        pub apply-settles : Ran width n (forward [] paper (network n) (drop 0 bits)) (switches paper (network n) (λ i. 0 + i)) 0 b l b′ l′
-            → logged a b′ l′ ≡ applyCall n width b bits l
-        unfolding applyCall moved applyEntries
-        apply-settles ran = settles n width verdict well reports (counted ∙ zero-add (W n)) (fits .whole) kept (rw from-0 at ran)
+        pub apply-settles : Ran width n (bitAt bits) (applyEntries paper n) 0 0 b l b′ l′ → logged a b′ l′ ≡ applyCall n width b bits l
+        unfolding applyCall moved runApply
+        apply-settles ran =
+            settles n width verdict (forward [] paper (network n) bits (cut width n b)) well reports (counted ∙ zero-add (W n)) (fits .whole) kept
+            (run-apply [] paper-lawful n bits (cut width n b) (length-cut width n b)) ran
 
-        pub inverse-settles : Ran width n (backward [] paper (network n) (bitsBack bits 0 (W n))) (reverse (switches paper (network n) (λ i. 0 + i))) 0 b l b′ l′
-            → logged a b′ l′ ≡ inverseCall n width b bits l
-        unfolding inverseCall movedBack inverseEntries applyEntries
+        pub inverse-settles : Ran width n (bitBack bits) (inverseEntries paper n) 0 0 b l b′ l′ → logged a b′ l′ ≡ inverseCall n width b bits l
+        unfolding inverseCall movedBack runInverse
         inverse-settles ran =
             let f = fits in
-            let all : length bits - (0 + W n) ≡ 0 = omega arith in
-            settles n width verdict well reports (counted ∙ zero-add (W n)) (f .whole) kept (rw (all, from-0) at ran)
+            settles n width verdict (backward [] paper (network n) bits (cut width n b)) well reports (counted ∙ zero-add (W n)) (f .whole) kept
+            (ap (λ c. runFrom [] (λ e. getD bits (c - 1 - e) 0) 0 (inverseEntries paper n) (cut width n b)) (f .count)
+            ∙ run-inverse [] paper-lawful n bits (cut width n b) (length-cut width n b)) ran

@@ -1,14 +1,11 @@
 // The network's switches on lent blocks, last to first, under control bits, with their log, by recursion on the halves: for
 // return. The bits and the bytes of the blocks are secret: no branch and no index depends on them.
 ghost use mathlib.Core.Path.{_≡_};
-ghost use mathlib.Core.List.{[], reverse};
 ghost use Prim.Native.Nat.{_+_};
 ghost use Rattle.counts.specs.Counts.{W};
 ghost use Rattle.network.specs.Wiring.{paper};
-ghost use Rattle.network.specs.Network.{network};
-ghost use Rattle.network.specs.Move.{backward};
-ghost use Rattle.network.specs.Log.{switches};
-ghost use Rattle.apply_layers.specs.Ran.{Lent, Ran, bitsBack};
+ghost use Rattle.network.specs.Log.{inverseEntries};
+ghost use Rattle.apply_layers.specs.Ran.{Lent, Ran, bitBack};
 
 // The network of m places from o, on its own part of the blocks, its entries from number e on: output switches, bottom, top,
 // input switches, each layer last to first. Returns the number of the entry after its last. Public for the crate `apply` only,
@@ -23,9 +20,8 @@ pub fn run_back(
     e: usize,
 ) -> usize
     requires { ⌜ Lent width m o (W m) e (now blocks) (now bits) (now log) ⌝ }
-    ensures { λ r. ⌜ (r ≡ e + W m) × Ran width m (backward [] paper (network m) (bitsBack (now (bits .entry)) e (W m)))
-        (reverse (switches paper (network m) (λ i. o + i))) e (now (blocks .entry)) (now (log .entry)) (now (blocks .exit))
-        (now (log .exit)) ⌝ }
+    ensures { λ r. ⌜ (r ≡ e + W m) × Ran width m (bitBack (now (bits .entry))) (inverseEntries paper m) o e
+        (now (blocks .entry)) (now (log .entry)) (now (blocks .exit)) (now (log .exit)) ⌝ }
 {
     if m < 2 {
         return e;

@@ -1,15 +1,11 @@
 // The network's switches on lent blocks, under control bits, with their log, by recursion on the halves: for mix. The bits and
 // the bytes of the blocks are secret: no branch and no index depends on them.
 ghost use mathlib.Core.Path.{_≡_};
-ghost use mathlib.Core.List.{[]};
 ghost use Prim.Native.Nat.{_+_};
-ghost use lib.ListN.{drop};
 ghost use Rattle.counts.specs.Counts.{W};
 ghost use Rattle.network.specs.Wiring.{paper};
-ghost use Rattle.network.specs.Network.{network};
-ghost use Rattle.network.specs.Move.{forward};
-ghost use Rattle.network.specs.Log.{switches};
-ghost use Rattle.apply_layers.specs.Ran.{Lent, Ran};
+ghost use Rattle.network.specs.Log.{applyEntries};
+ghost use Rattle.apply_layers.specs.Ran.{Lent, Ran, bitAt};
 
 // The network of m places from o, on its own part of the blocks, its entries from number e on: input switches, top, bottom,
 // output switches. Returns the number of the entry after its last. Public for the crate `apply` only, whose calls have asked
@@ -24,9 +20,8 @@ pub fn run(
     e: usize,
 ) -> usize
     requires { ⌜ Lent width m o (W m) e (now blocks) (now bits) (now log) ⌝ }
-    ensures { λ r. ⌜ (r ≡ e + W m) × Ran width m (forward [] paper (network m) (drop e (now (bits .entry))))
-        (switches paper (network m) (λ i. o + i)) e (now (blocks .entry)) (now (log .entry)) (now (blocks .exit))
-        (now (log .exit)) ⌝ }
+    ensures { λ r. ⌜ (r ≡ e + W m) × Ran width m (bitAt (now (bits .entry))) (applyEntries paper m) o e (now (blocks .entry))
+        (now (log .entry)) (now (blocks .exit)) (now (log .exit)) ⌝ }
 {
     if m < 2 {
         return e;

@@ -1,8 +1,8 @@
--- A run on the top and a run on the bottom part of the blocks, one after the other, and what is lent for each.
+-- The parts of the blocks that are lent for the halves of a network, one after the other, and what is lent with them.
 -- Assumes nothing.
-use mathlib.Core.Path.{_≡_, refl, sym, ap, _∙_}
-use mathlib.Core.List.{List, [], _∷_, _++_, append-nil}
-use Prim.Native.Nat.{ℕ, zero, suc, _+_, _-_, _*_, _^_, _≤_, _<_}
+use mathlib.Core.Path.{_≡_, sym, _∙_}
+use mathlib.Core.List.{List, _++_, append-nil}
+use Prim.Native.Nat.{ℕ, _+_, _-_, _*_, _^_, _≤_, _<_}
 use native.Mathlib.Nat.{add-mul}
 use native.Mathlib.Omega.{arith}
 use lib.ListN.{length, take, drop, length-append, length-drop, drop-of-length-le}
@@ -12,11 +12,8 @@ use borrow.Rule.Slice.PartMut.{putMid}
 use Rattle.counts.specs.Counts.{W, up}
 use Rattle.counts.proofs.Rule.{W-more}
 use Rattle.network.specs.Network.{down}
-use Rattle.network.specs.Blocks.{cut}
-use Rattle.network.specs.Log.{Entry, entryWords}
-use Rattle.network.proofs.Blocks.{cut-append, cut-of-take, take-cut, drop-cut}
-use Rattle.apply_layers.specs.Ran.{Lent, Ran}
-use Rattle.entry_log.proofs.Written.{log-then}
+use Rattle.network.specs.Log.{entryWords}
+use Rattle.apply_layers.specs.Ran.{Lent}
 
 -- ---- the parts of a slice, lent one after the other and back
 
@@ -86,32 +83,3 @@ lend lent m′ o′ e′ count′ bytes′ log′ places whole enough long =
       room = omega (arith, lent .room);
       settings = lent .settings;
     }
-
--- one rule on the first k blocks, another on the rest
-abbrev pub beside : ℕ → (List (List ℕ) → List (List ℕ)) → (List (List ℕ) → List (List ℕ)) → List (List ℕ) → List (List ℕ)
-beside k f g xs = f (take k xs) ++ g (drop k xs)
-
-module _ (w k h : ℕ) where
-  halves : (f g : List (List ℕ) → List (List ℕ)) (b x y : List ℕ) → length x ≡ k * w
-      → cut w k x ≡ f (cut w k (take (k * w) b)) → cut w h y ≡ g (cut w h (drop (k * w) b))
-      → cut w (k + h) (x ++ y) ≡ beside k f g (cut w (k + h) b)
-  halves f g b x y long p q =
-      cut-append w k h x y long
-      ∙ rw (p, q, cut-of-take w k b, take-cut w k (k + h) b (omega arith), drop-cut w k h b)
-
-  module _ {f g : List (List ℕ) → List (List ℕ)} {es fs : List Entry} {e e′ : ℕ} {b l x y l1 l2 : List ℕ} (long : length x ≡ k * w) (room : entryWords * e′ ≤ length l) where
-    pub ran-beside : e + length es ≡ e′ → Ran w k f es e (take (k * w) b) l x l1 → Ran w h g fs e′ (drop (k * w) b) l1 y l2
-        → Ran w (k + h) (beside k f g) (es ++ fs) e b l (x ++ y) l2
-    ran-beside at r s =
-        record {
-          blocks = halves f g b x y long (r .blocks) (s .blocks);
-          logged = log-then es fs e e′ l l1 l2 at room (r .logged) (s .logged);
-        }
-
-    pub ran-beside-back : e + length fs ≡ e′ → Ran w h g fs e (drop (k * w) b) l y l1 → Ran w k f es e′ (take (k * w) b) l1 x l2
-        → Ran w (k + h) (beside k f g) (fs ++ es) e b l (x ++ y) l2
-    ran-beside-back at s r =
-        record {
-          blocks = halves f g b x y long (r .blocks) (s .blocks);
-          logged = log-then fs es e e′ l l1 l2 at room (s .logged) (r .logged);
-        }

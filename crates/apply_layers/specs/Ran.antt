@@ -1,15 +1,16 @@
 -- What a function that runs some switches on lent blocks, and logs them, asks for and leaves behind.
 -- Assumes nothing: these are definitions.
 use mathlib.Core.Path.{_≡_}
-use mathlib.Core.List.{List}
+use mathlib.Core.List.{List, []}
 use Prim.Native.Nat.{ℕ, _+_, _-_, _*_, _≤_}
-use lib.ListN.{length, drop}
+use lib.ListN.{length, getD}
 use Rattle.answers.specs.Buffers.{overlay}
 use Rattle.bits.specs.Bits.{Bits}
 use Rattle.counts.specs.Counts.{up}
-use Rattle.network.specs.Wiring.{Side, paper}
+use Rattle.network.specs.Wiring.{paper}
 use Rattle.network.specs.Blocks.{cut}
-use Rattle.network.specs.Log.{Entry, entryWords, words}
+use Rattle.network.specs.Log.{Entry, entryWords, words, layerEntries, runFrom}
+use Rattle.network.specs.Shift.{shifted}
 
 -- What is lent for `count` switches of the network of m places from place o, whose entries stand in the log from entry
 -- number e on: m blocks, and bits and log for e + count entries.
@@ -22,17 +23,20 @@ pub record Lent (width m o count e : ℕ) (bytes bits log : List ℕ) : Type 0 w
   pub room : entryWords * (e + count) ≤ length log
   pub settings : Bits bits
 
--- The m blocks of `width` bytes are moved by `rule`, and the entries `es` stand in the log from entry number e on; the rest
--- of the log is kept. `bytes` and `log` are the buffers before, `bytes′` and `log′` after.
-pub record Ran (width m : ℕ) (rule : List (List ℕ) → List (List ℕ)) (es : List Entry) (e : ℕ) (bytes log bytes′ log′ : List ℕ) : Type 0 where
-  pub blocks : cut width m bytes′ ≡ rule (cut width m bytes)
-  pub logged : log′ ≡ overlay log (entryWords * e) (words es)
+-- The entries `es` were run: on the m lent blocks of `width` bytes, their places counted in these, and each under its own bit, the first
+-- being entry number e. They stand in the log from there on, their places counted in the whole, where the lent blocks begin at place o;
+-- the rest of the log is kept. `bytes` and `log` are the buffers before, `bytes′` and `log′` after.
+pub record Ran (width m : ℕ) (bit : ℕ → ℕ) (es : List Entry) (o e : ℕ) (bytes log bytes′ log′ : List ℕ) : Type 0 where
+  pub blocks : cut width m bytes′ ≡ runFrom [] bit e es (cut width m bytes)
+  pub logged : log′ ≡ overlay log (entryWords * e) (words (shifted o es))
 
--- where a side of the network of m places from place o lies in the whole network
-abbrev pub placed : ℕ → ℕ → Side → ℕ
-placed o m p = o + paper .enc (up m) p
+-- the bit of an entry: of mix bit e, of return the bit that is as far from the last as e is from 0
+abbrev pub bitAt : List ℕ → ℕ → ℕ
+bitAt bits e = getD bits e 0
 
--- the bits that the entries e to e + count - 1 of a return use, in the sequence of the bits: entry e uses bit
--- `length bits - 1 - e`
-abbrev pub bitsBack : List ℕ → ℕ → ℕ → List ℕ
-bitsBack bits e count = drop (length bits - (e + count)) bits
+abbrev pub bitBack : List ℕ → ℕ → ℕ
+bitBack bits e = getD bits (length bits - 1 - e) 0
+
+-- the first c switches of a layer of the paper's network of m places
+abbrev pub layerOf : ℕ → ℕ → List Entry
+layerOf m c = layerEntries (paper .enc (up m)) c

@@ -1,15 +1,10 @@
 // A layer of switches on lent blocks, first to last and last to first, each switch with its log entry. The bits and the bytes of
 // the blocks are secret: no branch and no index depends on them.
 ghost use mathlib.Core.Path.{_≡_};
-ghost use mathlib.Core.List.{[], reverse};
+ghost use mathlib.Core.List.{reverse};
 ghost use Prim.Native.Nat.{_+_, _≤_, _%_};
-ghost use lib.ListN.{drop};
-ghost use Rattle.counts.specs.Counts.{up};
-ghost use Rattle.network.specs.Wiring.{paper};
 ghost use Rattle.network.specs.Network.{down};
-ghost use Rattle.network.specs.Move.{layer, layerBack};
-ghost use Rattle.network.specs.Log.{layerEntries};
-ghost use Rattle.apply_layers.specs.Ran.{Lent, Ran, placed, bitsBack};
+ghost use Rattle.apply_layers.specs.Ran.{Lent, Ran, bitAt, bitBack, layerOf};
 
 // The first c switches of a layer of the network of m places from o, first to last: switch i on the places i and k + i,
 // under bit e + i, logged as entry e + i. Of each block `whole` bytes go in parts of 32, and the `rest` behind them.
@@ -27,8 +22,8 @@ fn in_parts(
 )
     requires { ⌜ Lent width m o c e (now blocks) (now bits) (now log) × (c ≤ down m) × (width ≡ whole + rest)
         × (whole % 32 ≡ 0) ⌝ }
-    ensures { λ _. ⌜ Ran width m (layer [] paper (up m) c (drop e (now (bits .entry)))) (layerEntries paper (placed o m) c) e
-        (now (blocks .entry)) (now (log .entry)) (now (blocks .exit)) (now (log .exit)) ⌝ }
+    ensures { λ _. ⌜ Ran width m (bitAt (now (bits .entry))) (layerOf m c) o e (now (blocks .entry)) (now (log .entry))
+        (now (blocks .exit)) (now (log .exit)) ⌝ }
 {
     let k = (m + 1) / 2;
     let gap = k * width;
@@ -58,8 +53,8 @@ fn in_parts_back(
 )
     requires { ⌜ Lent width m o c e (now blocks) (now bits) (now log) × (c ≤ down m) × (width ≡ whole + rest)
         × (whole % 32 ≡ 0) ⌝ }
-    ensures { λ _. ⌜ Ran width m (layerBack [] paper (up m) c (bitsBack (now (bits .entry)) e c)) (reverse
-        (layerEntries paper (placed o m) c)) e (now (blocks .entry)) (now (log .entry)) (now (blocks .exit)) (now (log .exit)) ⌝ }
+    ensures { λ _. ⌜ Ran width m (bitBack (now (bits .entry))) (reverse (layerOf m c)) o e (now (blocks .entry))
+        (now (log .entry)) (now (blocks .exit)) (now (log .exit)) ⌝ }
 {
     let k = (m + 1) / 2;
     let gap = k * width;
@@ -91,8 +86,8 @@ pub fn layer(
     e: usize,
 )
     requires { ⌜ Lent width m o c e (now blocks) (now bits) (now log) × (c ≤ down m) ⌝ }
-    ensures { λ _. ⌜ Ran width m (layer [] paper (up m) c (drop e (now (bits .entry)))) (layerEntries paper (placed o m) c) e
-        (now (blocks .entry)) (now (log .entry)) (now (blocks .exit)) (now (log .exit)) ⌝ }
+    ensures { λ _. ⌜ Ran width m (bitAt (now (bits .entry))) (layerOf m c) o e (now (blocks .entry)) (now (log .entry))
+        (now (blocks .exit)) (now (log .exit)) ⌝ }
 {
     match width {
         1 => in_parts(blocks, width, 0, 1, m, c, o, bits, log, e),
@@ -125,8 +120,8 @@ pub fn layer_back(
     e: usize,
 )
     requires { ⌜ Lent width m o c e (now blocks) (now bits) (now log) × (c ≤ down m) ⌝ }
-    ensures { λ _. ⌜ Ran width m (layerBack [] paper (up m) c (bitsBack (now (bits .entry)) e c)) (reverse
-        (layerEntries paper (placed o m) c)) e (now (blocks .entry)) (now (log .entry)) (now (blocks .exit)) (now (log .exit)) ⌝ }
+    ensures { λ _. ⌜ Ran width m (bitBack (now (bits .entry))) (reverse (layerOf m c)) o e (now (blocks .entry))
+        (now (log .entry)) (now (blocks .exit)) (now (log .exit)) ⌝ }
 {
     match width {
         1 => in_parts_back(blocks, width, 0, 1, m, c, o, bits, log, e),

@@ -11,3 +11,4 @@ pub mod Moved
 pub mod Run
 pub mod RunBack
 pub mod Kept
+pub mod Shift

@@ -61,15 +61,15 @@ module _ {A : Type 0} (d : A) where
       ∙ ap (λ (j : ℕ). getD (drop c bits) j 0) (sym (zero-add z)))
 
   run-layer :
-      (w : Wiring) (at : Side → ℕ) (k c : ℕ) (bits : List ℕ) (xs : List A)
-      → runApply d bits (layerEntries w at c) xs ≡ layer d (placed at) k c bits xs
+      (at : Side → ℕ) (k c : ℕ) (bits : List ℕ) (xs : List A)
+      → runApply d bits (layerEntries at c) xs ≡ layer d (placed at) k c bits xs
   unfolding layerEntries layer runApply runFrom runEntry
-  run-layer w at k zero bits xs = refl
-  run-layer w at k (suc i) bits xs =
-      runFrom-append (λ z. getD bits z 0) 0 (layerEntries w at i)
+  run-layer at k zero bits xs = refl
+  run-layer at k (suc i) bits xs =
+      runFrom-append (λ z. getD bits z 0) 0 (layerEntries at i)
       (record { kind = 7; first = at (i, false); second = at (i, true) } ∷ [])
       xs
-      ∙ rw (zero-add, length-layerEntries w at i, run-layer w at k i bits xs)
+      ∙ rw (zero-add, length-layerEntries at i, run-layer at k i bits xs)
 
 -- xs became ys: the item at each of m places came from the place that `from` says, and nothing else moved
 record Carried {A : Type 0} (d : A) (m : ℕ) (place from : ℕ → ℕ) (xs ys : List A) : Type 0 where
@@ -149,7 +149,7 @@ module _ {A : Type 0} (d : A) {w : Wiring} (L : Lawful w) where
     bottoms = switches w bottom (λ j. side (j, true))
 
     abbrev outputs : List Entry
-    outputs = layerEntries w side (down m)
+    outputs = layerEntries side (down m)
 
     abbrev entered : List A
     entered = layer d (placed side) (up m) (up m - 1) bits xs
@@ -166,14 +166,14 @@ module _ {A : Type 0} (d : A) {w : Wiring} (L : Lawful w) where
     level-is : runApply d bits (switches w (split m top bottom) place) xs ≡ done
     unfolding switches
     level-is =
-        runApply-append d bits (up m - 1) (layerEntries w side (up m - 1)) (tops ++ (bottoms ++ outputs)) xs
-        (length-layerEntries w side (up m - 1))
-        ∙ ap (runApply d (topBits m bits) (tops ++ (bottoms ++ outputs))) (run-layer d w side (up m) (up m - 1) bits xs)
+        runApply-append d bits (up m - 1) (layerEntries side (up m - 1)) (tops ++ (bottoms ++ outputs)) xs
+        (length-layerEntries side (up m - 1))
+        ∙ ap (runApply d (topBits m bits) (tops ++ (bottoms ++ outputs))) (run-layer d side (up m) (up m - 1) bits xs)
         ∙ runApply-append d (topBits m bits) (switchCount top) tops (bottoms ++ outputs) entered
         (length-switches w top (λ j. side (j, false)))
         ∙ runApply-append d (bottomBits m top bits) (switchCount bottom) bottoms outputs middle
         (length-switches w bottom (λ j. side (j, true)))
-        ∙ run-layer d w side (up m) (down m) (outputBits m top bottom bits) left
+        ∙ run-layer d side (up m) (down m) (outputBits m top bottom bits) left
 
     level-carries :
         (f g : ℕ → ℕ) → Keeps m f g

@@ -31,11 +31,15 @@ below-append : {n : ℕ} {es fs : List Entry} → Below n es → Below n fs → 
 below-append empty b = b
 below-append (also p q a) b = also p q (below-append a b)
 
-below-layer : (w : Wiring) (n : ℕ) (at : Side → ℕ) (c : ℕ) → ((p : Side) → p .0 < c → at p < n) → Below n (layerEntries w at c)
+pub below-reverse : {n : ℕ} {es : List Entry} → Below n es → Below n (reverse es)
+below-reverse empty = empty
+below-reverse {n} (also {e = e} {es = es} p q b) = rw (reverse-cons e es) (below-append (below-reverse b) (also p q empty))
+
+below-layer : (n : ℕ) (at : Side → ℕ) (c : ℕ) → ((p : Side) → p .0 < c → at p < n) → Below n (layerEntries at c)
 unfolding layerEntries
-below-layer w n at zero h = empty
-below-layer w n at (suc i) h =
-    below-append (below-layer w n at i (λ p l. h p (omega arith)))
+below-layer n at zero h = empty
+below-layer n at (suc i) h =
+    below-append (below-layer n at i (λ p l. h p (omega arith)))
     (also (h (i, false) (omega arith)) (h (i, true) (omega arith)) empty)
 
 below-switches :
@@ -47,12 +51,12 @@ below-switches {w} L {m} (some {top = top} {bottom = bottom} two t u) n place h 
     let both : (c : ℕ) → c ≤ down m → (p : Side) → p .0 < c → place (w .enc (up m) p) < n =
     λ c g p l. h (w .enc (up m) p) (lies-below L m p (lies-both m p (omega arith))) in
     below-append
-    (below-layer w n (λ p. place (w .enc (up m) p)) (up m - 1) (both (up m - 1) (omega arith)))
+    (below-layer n (λ p. place (w .enc (up m) p)) (up m - 1) (both (up m - 1) (omega arith)))
     (below-append
     (below-switches L t n (λ j. place (w .enc (up m) (j, false))) (λ j l. h (w .enc (up m) (j, false)) (lies-below L m (j, false) (lies-top m j l))))
     (below-append
     (below-switches L u n (λ j. place (w .enc (up m) (j, true))) (λ j l. h (w .enc (up m) (j, true)) (lies-below L m (j, true) (lies-both m (j, true) l))))
-    (below-layer w n (λ p. place (w .enc (up m) p)) (down m) (both (down m) (omega arith)))))
+    (below-layer n (λ p. place (w .enc (up m) p)) (down m) (both (down m) (omega arith)))))
 
 pub below-apply : {w : Wiring} → Lawful w → (n : ℕ) → Below n (applyEntries w n)
 unfolding applyEntries

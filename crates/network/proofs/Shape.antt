@@ -168,12 +168,12 @@ entryAt-front es rest e h =
     let inside : e < length (entries (words es ++ rest)) = rw all (simp length-append (omega arith)) in
     entryAt-entries (words es ++ rest) e inside ∙ rw all (List·getD-append es (entries rest) (entry 0 0 0) e h)
 
-module _ (w : Wiring) where
-  pub length-layerEntries : (place : Side → ℕ) (c : ℕ) → length (layerEntries w place c) ≡ c
-  unfolding layerEntries
-  length-layerEntries place zero = refl
-  length-layerEntries place (suc i) = rw (length-append, length-layerEntries place i) (omega arith)
+pub length-layerEntries : (place : Side → ℕ) (c : ℕ) → length (layerEntries place c) ≡ c
+unfolding layerEntries
+length-layerEntries place zero = refl
+length-layerEntries place (suc i) = rw (length-append, length-layerEntries place i) (omega arith)
 
+module _ (w : Wiring) where
   pub length-switches : (net : Network) (place : ℕ → ℕ) → length (switches w net place) ≡ switchCount net
   unfolding switches switchCount
   length-switches wires place = refl

@@ -3,3 +3,4 @@ pub mod Network
 pub mod Move
 pub mod Blocks
 pub mod Log
+pub mod Shift

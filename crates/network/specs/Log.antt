@@ -38,12 +38,12 @@ entries (a ∷ b ∷ c ∷ rest) = entry a b c ∷ entries rest
 abbrev pub entryAt : List ℕ → ℕ → Entry
 entryAt log e = entry (getD log (entryWords * e) 0) (getD log (entryWords * e + 1) 0) (getD log (entryWords * e + 2) 0)
 
-module _ (w : Wiring) where
-  -- the first c switches of a layer: pair i at the places that `place` gives its two sides
-  unfoldable pub layerEntries : (Side → ℕ) → ℕ → List Entry
-  layerEntries place zero = []
-  layerEntries place (suc i) = layerEntries place i ++ (entry 7 (place (i, false)) (place (i, true)) ∷ [])
+-- the first c switches of a layer: pair i at the places that `place` gives its two sides
+unfoldable pub layerEntries : (Side → ℕ) → ℕ → List Entry
+layerEntries place zero = []
+layerEntries place (suc i) = layerEntries place i ++ (entry 7 (place (i, false)) (place (i, true)) ∷ [])
 
+module _ (w : Wiring) where
   -- all switches of a network in the sequence of their bits; its places lie where `place` says
   unfoldable pub switches : Network → (ℕ → ℕ) → List Entry
   switches wires place = []

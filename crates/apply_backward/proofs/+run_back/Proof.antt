@@ -10,6 +10,7 @@ use borrow.Rule.Slice.PartAt.{part-to-end}
 use borrow.Rule.Slice.PartMut.{putMid}
 use Rattle.counts.specs.Counts.{W, up}
 use Rattle.network.specs.Network.{down}
+use Rattle.apply_layers.specs.Ran.{bitBack}
 use Rattle.apply_layers.proofs.Halves.{Sizes, sizes, lend, Parts, bottom-back}
 use Rattle.apply_layers.proofs.Network.{W-two, nothing-back, pair-back, returned}
 use Prim.Native.Nat.{ℕ, _<_}
@@ -98,7 +99,7 @@ whole t n =
 run-back-returns : (t : ℕ) → run-back-lts.Need-returns (layer-back-reads.Asked, layer-back-reads.Learnt, run-back-below t, run-back.Post) (run-back-at t) run-back.Post
 run-back-returns t c =
     let s = c .before .before .before .before in
-    nothing-back (s .args .width) (s .args .m) (s .args .o) (s .args .e) (s .args .bits .now) (s .args .blocks .now) (s .args .log .now) (c .if1 .taken)
+    nothing-back (s .args .width) (s .args .m) (s .args .o) (s .args .e) (bitBack (s .args .bits .now)) (s .args .blocks .now) (s .args .log .now) (c .if1 .taken)
 
 run-back-layer-back-requires : (t : ℕ) → run-back-lts.Need-layer-back-requires (layer-back-reads.Asked, layer-back-reads.Learnt, run-back-below t, run-back.Post) (run-back-at t) run-back.Post
 run-back-layer-back-requires t c κs =
@@ -123,7 +124,7 @@ run-back-returns-2 : (t : ℕ) → run-back-lts.Need-returns-2 (layer-back-reads
 run-back-returns-2 t c =
     let l = c .before .before .before .before in
     let a = l .before .before .before .before .before .before .before .before .args in
-    pair-back (a .width) (a .o) (a .e) (a .bits .now) (a .m) (l .before .before .before .if2 .taken) (l .layer-back .ensures)
+    pair-back (a .width) (a .o) (a .e) (bitBack (a .bits .now)) (a .m) (l .before .before .before .if2 .taken) (l .layer-back .ensures)
 
 run-back-add-k : (t : ℕ) → run-back-lts.Need-add-k (layer-back-reads.Asked, layer-back-reads.Learnt, run-back-below t, run-back.Post) (run-back-at t) run-back.Post
 run-back-add-k t c = omega (arith, sz t c)
@@ -235,8 +236,11 @@ run-back-returns-3 t c =
     let r2 : n .run-back2 .result ≡ m .run-back .result + W (up (a .m)) = n .run-back2 .ensures .0 in
     let bottom = rw (lent t l) at (m .run-back .ensures .1) in
     let top = rw (parts t m .front) at (n .run-back2 .ensures .1) in
-    let inputs = rw (back t n) at (f .layer-back3 .ensures) in
-    (omega (arith, z, r, r2), returned (a .m) (z .two) (a .width) (a .o) (a .bits .now) (topped t n) (log1 t l) (omega (arith, z, r, r2)) refl r r2 (omega (arith, z, r, r2)) (z .enough) (l .layer-back2 .ensures) bottom top inputs)
+    let inputs = rw (back t n) at (f .layer-back3 .ensures) in (
+      omega (arith, z, r, r2),
+      returned (a .m) (z .two) (a .width) (bitBack (a .bits .now)) (a .o) (n .run-back2 .last .0) (m .run-back .last .0) (cut t l) (topped t n)
+          (omega (arith, z, r, r2)) (log1 t l) (log2 t m) refl r r2 (l .layer-back2 .ensures) bottom top inputs,
+    )
 
 pub +run-back-spec : {M : Type 1} → statement M
 +run-back-spec = close μ-run-back λ t. run-back-lts.spec (layer-back-reads.Asked, layer-back-reads.Learnt, run-back-below t, run-back.Post)

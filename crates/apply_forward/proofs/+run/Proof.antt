@@ -10,6 +10,7 @@ use lib.Seq.{length-take-le}
 use borrow.Rule.Slice.PartMut.{putMid}
 use Rattle.counts.specs.Counts.{W, up}
 use Rattle.network.specs.Network.{down}
+use Rattle.apply_layers.specs.Ran.{bitAt}
 use Rattle.apply_layers.proofs.Halves.{Sizes, sizes, lend, rest-lent, rest-back}
 use Rattle.apply_layers.proofs.Network.{W-two, nothing, pair, applied}
 use Prim.Native.Nat.{ℕ, _<_}
@@ -104,7 +105,7 @@ whole t n =
 run-returns : (t : ℕ) → run-lts.Need-returns (layer-reads.Asked, layer-reads.Learnt, run-below t, run.Post) (run-at t) run.Post
 run-returns t c =
     let s = c .before .before .before .before in
-    nothing (s .args .width) (s .args .m) (s .args .o) (s .args .e) (s .args .bits .now) (s .args .blocks .now) (s .args .log .now) (c .if1 .taken)
+    nothing (s .args .width) (s .args .m) (s .args .o) (s .args .e) (bitAt (s .args .bits .now)) (s .args .blocks .now) (s .args .log .now) (c .if1 .taken)
 
 run-layer-requires : (t : ℕ) → run-lts.Need-layer-requires (layer-reads.Asked, layer-reads.Learnt, run-below t, run.Post) (run-at t) run.Post
 run-layer-requires t c κs =
@@ -129,7 +130,7 @@ run-returns-2 : (t : ℕ) → run-lts.Need-returns-2 (layer-reads.Asked, layer-r
 run-returns-2 t c =
     let l = c .before .before .before .before in
     let a = l .before .before .before .before .before .before .before .before .args in
-    pair (a .width) (a .o) (a .e) (a .bits .now) (a .m) (l .before .before .before .if2 .taken) (l .layer .ensures)
+    pair (a .width) (a .o) (a .e) (bitAt (a .bits .now)) (a .m) (l .before .before .before .if2 .taken) (l .layer .ensures)
 
 run-add-k : (t : ℕ) → run-lts.Need-add-k (layer-reads.Asked, layer-reads.Learnt, run-below t, run.Post) (run-at t) run.Post
 run-add-k t c = omega (arith, sz t c)
@@ -238,8 +239,11 @@ run-returns-3 t c =
     let r : m .run .result ≡ a .e + (up (a .m) - 1) + W (up (a .m)) = m .run .ensures .0 in
     let r2 : n .run2 .result ≡ m .run .result + W (down (a .m)) = n .run2 .ensures .0 in
     let bottom = rw (lent t m) at (n .run2 .ensures .1) in
-    let outputs = rw (back t n) at (f .layer3 .ensures) in
-    (omega (arith, z, r, r2), applied (a .m) (z .two) (a .width) (a .o) (a .bits .now) (topped t m) (log1 t l) (omega (arith, z, r, r2)) refl r r2 (l .layer2 .ensures) (m .run .ensures .1) bottom outputs)
+    let outputs = rw (back t n) at (f .layer3 .ensures) in (
+      omega (arith, z, r, r2),
+      applied (a .m) (z .two) (a .width) (bitAt (a .bits .now)) (a .o) (m .run .last .0) (n .run2 .last .0) (omega (arith, z, l .layer2 .kept .0)) (topped t m)
+          (omega (arith, z, r, r2)) (log1 t l) (log2 t m) refl r r2 (l .layer2 .ensures) (m .run .ensures .1) bottom outputs,
+    )
 
 pub +run-spec : {M : Type 1} → statement M
 +run-spec = close μ-run λ t. run-lts.spec (layer-reads.Asked, layer-reads.Learnt, run-below t, run.Post)

@@ -105,11 +105,12 @@ loop-again c =
     let l = x .before .before .before .before in
     let s = l .before .before .before .before in
     let a = s .args in
+    let at : length (a .bits .now) - (a .e + a .c) + (l .loop .i - 1) ≡ length (a .bits .now) - 1 - l .loop .to = omega arith in
     let k = r .exchange-rest .kept .0 ∙ x .exchange-whole .kept .0 in (
       (omega arith, (omega arith, (k ∙ l .loop .inv .0 .1 .1 .0, w .write-entry .kept .0 ∙ l .loop .inv .0 .1 .1 .1))),
       leads-more (a .width) (a .m) (a .o) (a .bits .now) (a .e) (a .blocks .now) (a .log .now) (a .c) (l .loop .i)
-          (l .loop .i - 1) (l .loop .to) (l .loop .blocks) (l .loop .log) (r .exchange-rest .last .0) (w .write-entry .last .0)
-          (omega arith) (omega arith) (omega arith) (omega arith) (l .loop .inv .1)
+          (l .loop .i - 1) (l .loop .to) _ (l .loop .blocks) (l .loop .log) (r .exchange-rest .last .0) (w .write-entry .last .0)
+          (omega arith) at (omega arith) (omega arith) (omega arith) (l .loop .inv .1)
           (both-parts (a .width) (a .whole) (a .rest) ((l .loop .i - 1) * a .width) (up (a .m) * a .width)
           (getD (a .bits .now) (length (a .bits .now) - (a .e + a .c) + (l .loop .i - 1)) 0) (l .loop .blocks)
           (x .exchange-whole .last .0) (r .exchange-rest .last .0) (s .pre .2) (x .exchange-whole .ensures)
