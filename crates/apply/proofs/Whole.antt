@@ -1,8 +1,8 @@
 -- From the run of the whole network to what a call comes to.
 -- Assumes nothing.
-use mathlib.Core.Path.{_≡_, refl, sym, ap, _∙_}
+use mathlib.Core.Path.{_≡_, sym, ap, _∙_}
 use mathlib.Core.List.{List, []}
-use Prim.Native.Nat.{ℕ, zero, suc, _+_, _-_, _*_, _≤_, _<_}
+use Prim.Native.Nat.{ℕ, _+_, _-_, _*_}
 use native.Mathlib.Nat.{zero-add}
 use native.Mathlib.Omega.{arith}
 use lib.ListN.{length, getD}
@@ -12,7 +12,7 @@ use Rattle.answers.specs.Questions.{Verdict, allYes, noAt, firstNo}
 use Rattle.answers.specs.Buffers.{overlay}
 use Rattle.answers.specs.Outcomes.{answerOf, logged, settledLogged}
 use Rattle.answers.proofs.Buffers.{overlay-whole}
-use Rattle.answers.proofs.Outcomes.{logged-refused, logged-accepted}
+use Rattle.answers.proofs.Outcomes.{logged-accepted}
 use Rattle.counts.specs.Counts.{W}
 use Rattle.network.specs.Wiring.{paper}
 use Rattle.network.specs.Network.{network}

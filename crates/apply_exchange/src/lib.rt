@@ -5,7 +5,7 @@ ghost use mathlib.Core.Path.{_≡_};
 ghost use Prim.Native.Nat.{ℕ, _<_, _≤_, _+_, _*_, _/_, _%_};
 ghost use lib.ListN.{length, getD};
 ghost use Rattle.apply_words.specs.Bytes.{bytesSwitched};
-ghost use Rattle.apply_words.specs.Words.{from, written, pick};
+ghost use Rattle.apply_words.specs.Words.{from, written};
 
 // ---- 32 bytes, through arrays of their own: so the compiler need not ask whether the two parts overlap, and takes 16 at a time
 

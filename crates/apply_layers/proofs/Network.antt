@@ -1,10 +1,10 @@
 -- The stages of a network's run, put together: its whole list of switches was run, first to last or last to first.
 -- Assumes nothing.
 use mathlib.Core.Path.{_≡_, refl, sym, ap, _∙_}
-use mathlib.Core.List.{List, [], _∷_, _++_, append-assoc, reverse, reverse-append}
+use mathlib.Core.List.{List, _++_, append-assoc, reverse, reverse-append}
 use Prim.Native.Nat.{ℕ, _+_, _-_, _*_, _≤_, _<_}
 use native.Mathlib.Omega.{arith}
-use lib.ListN.{length, take, drop, length-append, length-drop, length-reverse, take-append-drop}
+use lib.ListN.{length, take, drop, length-reverse, take-append-drop}
 use lib.Seq.{length-take-le}
 use Rattle.counts.specs.Counts.{W, up, byHalves}
 use Rattle.counts.proofs.Rule.{W-none}

@@ -2,7 +2,7 @@
 -- Assumes nothing.
 use mathlib.Core.Path.{_≡_, refl, sym, ap, _∙_}
 use mathlib.Core.List.{List, [], _∷_, _++_, reverse, reverse-append}
-use Prim.Native.Nat.{ℕ, zero, suc, _+_, _-_, _*_, _≤_, _<_}
+use Prim.Native.Nat.{ℕ, suc, _+_, _-_, _*_, _≤_, _<_}
 use native.Mathlib.Numerals.{add-one}
 use native.Mathlib.Omega.{arith}
 use lib.ListN.{length, getD}
@@ -11,7 +11,6 @@ use Rattle.answers.proofs.Buffers.{overlay-none}
 use Rattle.counts.specs.Counts.{up}
 use Rattle.network.specs.Wiring.{paper}
 use Rattle.network.specs.Network.{down}
-use Rattle.network.specs.Move.{switch}
 use Rattle.network.specs.Blocks.{cut}
 use Rattle.network.specs.Log.{Entry, entry, entryWords, words, layerEntries, runEntry, runFrom}
 use Rattle.network.specs.Shift.{shifted}

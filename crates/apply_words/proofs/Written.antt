@@ -5,7 +5,7 @@ use mathlib.Core.List.{List, [], _∷_, _++_}
 use Prim.Native.Nat.{ℕ, zero, suc, _+_, _≤_, _<_}
 use native.Mathlib.Omega.{arith}
 use lib.ListN.{length, take, drop, getD, set, length-set}
-use lib.Seq.{length-take-le, set-append-left, getD-set-same, getD-set-other, set-getD, set-comm, getD-take, getD-drop}
+use lib.Seq.{length-take-le, set-append-left, getD-set-other, set-getD, set-comm, getD-take, getD-drop}
 use borrow.Rule.Slice.PartMut.{putMid, midOf, postOf, put-same}
 use Rattle.network.specs.Move.{switch}
 use Rattle.apply_words.specs.Bytes.{bytesSwitched}

@@ -22,8 +22,7 @@ use Rattle.control_sweeps.specs.Tables.{Below}
 use Rattle.control_numbers.proofs.Numbers.{digit-small}
 use Rattle.control_sweeps.proofs.Places.{each-ahead}
 use Rattle.control_sweeps.proofs.Bounds.{set-below, store-below, act-below, each-below, below-more, pick-below, look-below, seek-below, other-below, pair-within}
-use Rattle.control_walk.specs.declared.Walk.{Walk}
-use Rattle.control_walk.specs.Walks.{state, within}
+use Rattle.control_walk.specs.Walks.{within}
 use Rattle.control_network.specs.Inner.{Tidy}
 
 enc-within : (k q : ℕ) (t : Bool) → paper .enc k (q, t) ≤ q + k

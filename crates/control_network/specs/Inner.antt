@@ -3,7 +3,7 @@
 use Prim.Native.Nat.{ℕ, _+_, _-_, _*_, _≤_, _<_}
 use mathlib.Core.List.{List}
 use lib.ListN.{length, getD, replicate}
-use Rattle.counts.specs.Counts.{up, W, E}
+use Rattle.counts.specs.Counts.{W, E}
 use Rattle.network.specs.Log.{entryWords}
 use Rattle.steps.specs.State.{State}
 use Rattle.control_sweeps.specs.Tables.{Below}

@@ -1,10 +1,9 @@
 -- The lowest unmarked pair as the least of the numbers swept: one pair more at a time, and the pairs past k, which are higher.
 -- Assumes nothing.
 use mathlib.Core.Path.{_≡_, refl, sym, _∙_}
-use mathlib.Core.Bool.{Bool, true, false, not, cond}
+use mathlib.Core.Bool.{Bool, true, false, cond}
 use mathlib.Core.List.{List}
 use Prim.Native.Nat.{ℕ, zero, suc, _+_, _-_, _%_, _≤_, _<_}
-use native.Mathlib.Numerals.{add-one}
 use native.Mathlib.Omega.{arith}
 use native.Mathlib.Decide.{ℕ-discrete, decLt}
 use lib.Dec.{ltb, eqb}
@@ -14,7 +13,7 @@ use Rattle.answers.specs.Questions.{firstBad}
 use Rattle.answers.proofs.Questions.{bad-within, bad-counts, bad-stops, bad-stays}
 use Rattle.permutation.proofs.Sweeps.{same-bad}
 use Rattle.control_rows.specs.Rows.{sixteens}
-use Rattle.control_pairs.specs.Pairs.{markIn, Numbered}
+use Rattle.control_pairs.specs.Pairs.{markIn}
 
 -- the first bad index below i, or k where there is none
 abbrev pub lowOf : (ℕ → Bool) → ℕ → ℕ → ℕ
@@ -67,9 +66,6 @@ low-past good k (suc n) h = one ∙ low-past good k n h
   where
     at : k + suc n ≡ k + n + 1
     at = omega arith
-
-    i : ℕ
-    i = k + n
 
     go : Dec (firstBad good (k + n) ≡ k + n) → lowOf good k (k + n + 1) ≡ lowOf good k (k + n)
     go (yes e) =

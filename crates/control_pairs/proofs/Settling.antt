@@ -16,7 +16,7 @@ use Rattle.steps.specs.Sweeps.{store, each}
 use Rattle.steps.specs.Steps.{digit}
 use Rattle.control_numbers.proofs.Numbers.{digit-is, byte-is}
 use Rattle.control_rows.specs.Rows.{sixteens}
-use Rattle.control_pairs.specs.Pairs.{markIn, bitIn, bitsIn, Numbered, Unmarked}
+use Rattle.control_pairs.specs.Pairs.{markIn, bitIn, bitsIn, Numbered}
 
 pub unmarked-more : (pairs : List ℕ) (c i : ℕ) → c ≡ i → i < length pairs → ((j : ℕ) → j < i → getD pairs j 0 ≡ j)
     → (j : ℕ) → j < i + 1 → getD (set pairs i c) j 0 ≡ j

@@ -1,9 +1,9 @@
 -- From what the sweeps left to the step of the definition.
 -- Assumes nothing.
-use mathlib.Core.Path.{_≡_, refl, sym, ap, _∙_}
+use mathlib.Core.Path.{_≡_, refl, sym, _∙_}
 use mathlib.Core.Bool.{Bool, true, false, not, cond}
 use mathlib.Core.List.{List}
-use Prim.Native.Nat.{ℕ, zero, suc, _+_, _-_, _*_, _≤_, _<_}
+use Prim.Native.Nat.{ℕ, _+_, _-_, _*_, _≤_, _<_}
 use native.Mathlib.Omega.{arith}
 use native.Mathlib.Decide.{decLt}
 use lib.Bits.{bitOr}
@@ -21,10 +21,10 @@ use Rattle.control_numbers.proofs.Numbers.{digit-is, other-digit, pairs}
 use Rattle.control_rows.specs.Rows.{Gathered}
 use Rattle.control_rows.proofs.Rows.{look-gathered, seek-gathered}
 use Rattle.control_pairs.specs.Pairs.{markIn, marksIn, bitsIn, noneIn, Numbered, Settled}
-use Rattle.control_pairs.proofs.Held.{low-held, settled-marks, settled-bits, settled-none, settled-numbered}
+use Rattle.control_pairs.proofs.Held.{low-held, settled-marks, settled-bits, settled-none}
 use Rattle.control_walk.specs.declared.Walk.{Walk}
 use Rattle.control_walk.specs.Walks.{state, lying}
-use Rattle.control_rings.specs.Turns.{turned, Small, Held}
+use Rattle.control_rings.specs.Turns.{turned, Small}
 
 -- both factors are bits: the product says that both are 1
 pub again-is : (a b : Bool) → digit a * digit b ≡ digit (cond a b false)

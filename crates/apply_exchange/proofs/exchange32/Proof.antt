@@ -4,7 +4,7 @@ use borrow.Author.Needs.{needs}
 use native.Mathlib.Omega.{arith}
 use mathlib.Core.Path.{_≡_, ap, _∙_}
 use Prim.Native.Nat.{_+_, _-_, _≤_, _<_}
-use lib.ListN.{getD, length-set}
+use lib.ListN.{getD}
 use Rattle.apply_words.specs.Words.{written}
 use Rattle.apply_words.proofs.Masked.{masked-byte}
 use Rattle.apply_words.proofs.Written.{Picked, parts-switched}

@@ -1,7 +1,6 @@
 -- Two numbers of 4 bytes, switched and put back.
 -- Assumes nothing.
 use borrow.Author.Needs.{needs}
-use native.Mathlib.Omega.{arith}
 use mathlib.Core.Path.{ap, _∙_}
 use Rattle.apply_words.specs.Words.{byteOf, written}
 use Rattle.apply_words.proofs.Words.{numbers-switched}

@@ -5,7 +5,7 @@ use native.Mathlib.Omega.{arith}
 use mathlib.Core.Path.{_≡_, ap, _∙_}
 use Prim.Native.Nat.{_+_, _-_}
 use lib.ListN.{length, length-set}
-use borrow.Rule.Slice.PartMut.{putMid, midOf, put-same}
+use borrow.Rule.Slice.PartMut.{midOf, put-same}
 use Rattle.apply_words.specs.Words.{byteOf, written}
 use Rattle.apply_words.proofs.Written.{part-written}
 use Rattle.apply_words.proofs.put2.Statement.{statement}

@@ -2,15 +2,14 @@
 -- Assumes nothing.
 use native.Mathlib.Omega.{arith}
 use borrow.Author.Needs.{needs}
-use mathlib.Core.Path.{_≡_, refl, sym, ap, _∙_}
-use Prim.Native.Nat.{ℕ}
+use mathlib.Core.Path.{refl, sym, ap, _∙_}
 use lib.ListN.{replicate}
 use Rattle.counts.specs.Counts.{up}
 use Rattle.network.specs.Wiring.{paper}
 use Rattle.steps.specs.Steps.{step5}
 use Rattle.steps.specs.State.{State}
 use Rattle.steps.proofs.Lengths.{E-parts}
-use Rattle.control_walk.specs.Walks.{state, within}
+use Rattle.control_walk.specs.Walks.{within}
 use Rattle.control_network.specs.Inner.{Tidy, unmarked}
 use Rattle.control_network.proofs.Bounds.{tidy-is, tidy-input}
 use Rattle.control_network.proofs.Entries.{went-then, went-as, W-parts}

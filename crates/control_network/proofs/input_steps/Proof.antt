@@ -11,7 +11,6 @@ use Rattle.counts.proofs.Rule.{E-more}
 use Rattle.network.specs.Wiring.{paper}
 use Rattle.steps.specs.State.{State}
 use Rattle.steps.specs.Steps.{step4}
-use Rattle.steps.specs.Fold.{roundsOf}
 use Rattle.steps.proofs.Lengths.{length-rounds}
 use Rattle.control_pairs.specs.Pairs.{marksIn}
 use Rattle.control_pairs.proofs.Held.{marks-cleared}

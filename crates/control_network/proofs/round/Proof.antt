@@ -2,18 +2,18 @@
 -- Assumes nothing.
 use native.Mathlib.Omega.{arith}
 use borrow.Author.Needs.{needs}
-use mathlib.Core.Path.{_≡_, sym, ap, _∙_}
+use mathlib.Core.Path.{sym, ap, _∙_}
 use mathlib.Core.Bool.{Bool, not}
 use mathlib.Core.List.{List}
-use Prim.Native.Nat.{ℕ, _-_, _<_}
+use Prim.Native.Nat.{ℕ, _-_}
 use Rattle.counts.specs.Counts.{up}
 use Rattle.network.specs.Wiring.{paper}
-use Rattle.steps.specs.Steps.{digit, step1, step2, step3}
+use Rattle.steps.specs.Steps.{digit, step2, step3}
 use Rattle.steps.specs.Fold.{roundsOf}
 use Rattle.control_numbers.proofs.Numbers.{digit-small}
 use Rattle.control_pairs.specs.Pairs.{marksIn, bitsIn, noneIn}
 use Rattle.control_pairs.proofs.Held.{none-held}
-use Rattle.control_walk.specs.Walks.{state, lying}
+use Rattle.control_walk.specs.Walks.{lying}
 use Rattle.control_network.proofs.Entries.{went-then}
 use Rattle.control_network.proofs.round.Statement.{statement}
 use Rattle.control_network.proofs.round.Tie as tie

@@ -3,7 +3,6 @@
 use native.Mathlib.Omega.{arith}
 use borrow.Author.Needs.{needs}
 use mathlib.Core.Path.{refl}
-use Rattle.counts.specs.Counts.{up}
 use Rattle.control_sweeps.proofs.Bounds.{other-below, seek-below}
 use Rattle.control_walk.proofs.Going.{went-one}
 use Rattle.control_rings.proofs.Stepping.{step2-is}
