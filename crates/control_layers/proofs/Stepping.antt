@@ -1,8 +1,10 @@
 -- From what the sweeps left to the step of the definition.
 -- Assumes nothing.
 use mathlib.Core.Path.{_≡_, _∙_}
+use mathlib.Core.Bool.{Bool, true, false}
 use mathlib.Core.List.{List}
-use Prim.Native.Nat.{ℕ, _+_, _-_, _*_, _/_, _%_}
+use Prim.Native.Nat.{ℕ, _+_, _-_, _*_, _/_, _%_, _<_}
+use native.Mathlib.Omega.{arith}
 use lib.Dec.{eqb}
 use lib.ListN.{getD}
 use Rattle.counts.specs.Counts.{up}
@@ -10,10 +12,22 @@ use Rattle.network.specs.Wiring.{paper}
 use Rattle.steps.specs.Sweeps.{each, act}
 use Rattle.steps.specs.State.{State, outputBit}
 use Rattle.steps.specs.Steps.{digit, step4, step5, step6}
+use Rattle.control_sweeps.specs.Tables.{Within}
+use Rattle.control_sweeps.proofs.Bounds.{act-within}
 use Rattle.control_walk.specs.declared.Walk.{Walk}
 use Rattle.control_walk.specs.Walks.{state, within}
 use Rattle.control_walk.proofs.Going.{onward}
 use Rattle.control_layers.specs.Switches.{Switched}
+
+-- the output switches move the values of the network's own places alone
+pub outputs-within : (o m b : ℕ) (bits : List ℕ) (n : ℕ) (xs : List ℕ) → Within o m b xs
+    → Within o m b (act (λ p. o + paper .enc (up m) p) bits n (m - up m) xs)
+outputs-within o m b bits n xs h =
+    act-within o m b (λ p. o + paper .enc (up m) p) bits n (m - up m) xs (λ i t l. below i t l) (λ i t l. omega arith) h
+  where
+    below : (i : ℕ) (t : Bool) → i < m - up m → o + paper .enc (up m) (i, t) < o + m
+    below i true l = omega arith
+    below i false l = omega arith
 
 module _ (o m bit : ℕ) (vs ts ms bs : List ℕ) (w : Walk) where
   abbrev pub switches : List ℕ → ℕ → ℕ → List ℕ → List ℕ

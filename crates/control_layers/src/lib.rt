@@ -50,7 +50,7 @@ pub fn step5(
     w: control_walk::Walk,
 ) -> control_walk::Walk
     requires { ⌜ (2 ≤ m) × (o + m ≤ 1024) × (o + m ≤ length (now vals)) × (o + m ≤ length (now trails))
-        × (w .b < 18446744073709551616) × (entryWords * (w .e + 1) ≤ length (now log)) × Below 32768 (now vals)
+        × (w .b < 18446744073709551616) × (entryWords * (w .e + 1) ≤ length (now log)) × Within o m 32768 (now vals)
         × Within o m 32768 (now trails) ⌝ }
     ensures { λ r. ⌜ Went (entry 5 o m ∷ []) 0 w r (now (log .entry)) (now (log .exit)) × ((ms bs : List ℕ) (bit : ℕ)
         → state (now (vals .exit)) (now (trails .exit)) ms bs r ≡ step5 paper (within o m bit) (state (now (vals .entry))
@@ -97,7 +97,7 @@ pub fn step6(
 ) -> control_walk::Walk
     requires { ⌜ (2 ≤ m) × (o + m ≤ 1024) × (o + m ≤ length (now vals)) × (o + m ≤ length (now trails))
         × (w .b + (m - up m) ≤ length (now bits)) × (entryWords * (w .e + 1) ≤ length (now log)) × Below 2 (now bits)
-        × Below 32768 (now vals) ⌝ }
+        × Within o m 32768 (now vals) ⌝ }
     ensures { λ r. ⌜ Went (entry 6 o m ∷ []) (m - up m) w r (now (log .entry)) (now (log .exit)) × ((ms : List ℕ) (bit : ℕ)
         → w .b ≡ outputBit (within o m bit) → state (now (vals .exit)) (now (trails .exit)) ms (now (bits .exit)) r
         ≡ step6 paper (within o m bit) (state (now (vals .entry)) (now (trails .entry)) ms (now (bits .entry)) w)) ⌝ }

@@ -21,7 +21,7 @@ use Rattle.steps.specs.State.{State, Subnetwork, outputBit}
 use Rattle.steps.specs.Steps.{step4, step5, step6}
 use Rattle.steps.specs.Sequence.{rounds, inputEntries, entriesOf}
 use Rattle.steps.specs.Fold.{roundsOf, inputSteps, setNet}
-use Rattle.control_sweeps.specs.Tables.{Below}
+use Rattle.control_sweeps.specs.Tables.{Within}
 use Rattle.control_rows.specs.Rows.{Gathered}
 use Rattle.control_rings.specs.Turns.{Small}
 use Rattle.control_walk.specs.declared.Walk.{Walk}
@@ -59,9 +59,9 @@ went-from {es} {n} {r} {a} {b} w v e f G =
 -- ---- the rounds
 
 -- the values gathered are as small as those of the table
-pub small-gathered : (place : ℕ → ℕ) (m : ℕ) (xs row : List ℕ) → Below 32768 xs → Gathered place m xs row → Small m row
-unfolding Below Small
-small-gathered place m xs row h G i l = rw (G .at i l) (h (place i))
+pub small-gathered : (o m : ℕ) (xs row : List ℕ) → Within o m 32768 xs → Gathered (λ i. o + i) m xs row → Small m row
+unfolding Within Small
+small-gathered o m xs row h G i l = rw (G .at i l) (h i l)
 
 pub rounds-more : (i o m : ℕ) → rounds i o m ++ (entry 1 o m ∷ entry 2 o m ∷ entry 3 o m ∷ []) ≡ rounds (i + 1) o m
 unfolding rounds

@@ -1,27 +1,34 @@
 -- A network of two places or more: what each of its parts asks follows from what the parts before it did, and the whole
 -- is what the definition says.
 -- Assumes nothing.
-use mathlib.Core.Path.{_≡_, sym, ap}
+use mathlib.Core.Path.{_≡_, sym, ap, _∙_, subst}
+use mathlib.Core.Bool.{Bool, true, false, true≢false}
 use mathlib.Core.List.{List, [], _∷_, _++_}
-use Prim.Native.Nat.{ℕ, _+_, _-_, _*_, _≤_}
+use Prim.Native.Nat.{ℕ, _+_, _-_, _*_, _/_, _≤_, _<_}
 use native.Mathlib.Omega.{arith}
-use lib.ListN.{length, length-append, replicate}
+use lib.ListN.{length, getD, length-append, replicate}
 use Rattle.counts.specs.Counts.{up, W, E}
-use Rattle.network.specs.Wiring.{paper}
+use Rattle.network.specs.Wiring.{Side, paper}
 use Rattle.network.specs.Network.{network}
 use Rattle.network.specs.Log.{Entry, entry, entryWords}
+use Rattle.network.proofs.Paper.{paper-lawful}
 use Rattle.network.proofs.Shape.{sized}
-use Rattle.steps.specs.State.{State, outputBit}
+use Rattle.permutation.specs.Permutations.{IsPermutation}
+use Rattle.steps.specs.State.{State, Subnetwork, outputBit}
 use Rattle.steps.specs.Steps.{step5, step6}
 use Rattle.steps.specs.Sequence.{inputEntries, entriesOf}
 use Rattle.steps.specs.Fold.{inputSteps, setNet}
 use Rattle.steps.proofs.Lengths.{E-parts, length-entries}
-use Rattle.control_sweeps.specs.Tables.{Below}
+use Rattle.steps.proofs.Places.{Unlike, sizeOf, real⁻}
+use Rattle.steps_canonical.specs.Table.{Holding, Ordered}
+use Rattle.steps_canonical.proofs.Level.{Sets, orderIn, half-order, half-apart, top-holding, bottom-holding, value-in}
+use Rattle.steps_canonical.proofs.Whole.{net-sets}
+use Rattle.control_sweeps.specs.Tables.{Below, Within}
 use Rattle.control_walk.specs.declared.Walk.{Walk}
-use Rattle.control_walk.specs.Walks.{state, within, Went}
+use Rattle.control_walk.specs.Walks.{state, lying, within, Went}
 use Rattle.control_network.specs.Inner.{Room, Tidy, Lengthens, unmarked}
-use Rattle.control_network.proofs.Bounds.{tidy-more, tidy-is, tidy5, tidy-input, tidy-net}
-use Rattle.control_network.proofs.Trails.{Halfway, halfway-enter, halfway-kept, halfway-top, halfway-bottom}
+use Rattle.control_network.proofs.Bounds.{further, order-small, tidy-is, tidy5, tidy-input, tidy-net}
+use Rattle.control_network.proofs.Trails.{unlike-from, halfway, half-fits}
 use Rattle.control_network.proofs.Entries.{went-then, went-as, W-parts, entries-split, net-split}
 
 -- a part with k pairs was done: its entries, its n bits, and what it made of the state, where none of j pairs is marked
@@ -57,7 +64,7 @@ module _ (o m : ℕ) (w : Walk) (vs ts ps bs l : List ℕ) (two : 2 ≤ m) (R : 
   front-length : length (inputEntries o m ++ (entry 5 o m ∷ [])) ≡ length (inputEntries o m) + 1
   front-length = length-append (inputEntries o m) (entry 5 o m ∷ [])
 
-  module _ (T : Tidy (1024 + 2 * w .b) (unmarked 0 vs ts bs w)) (L : Lengthens o m ts)
+  module _ (T : Tidy (unmarked 512 vs ts bs w)) (S : Ordered (within o m (w .b)) (unmarked 512 vs ts bs w)) (L : Lengthens o m ts)
       {x : Walk}
       {vs₁ ts₁ ps₁ bs₁ l₁ : List ℕ}
       (D : Entered o m w x vs ts ps bs l vs₁ ts₁ ps₁ bs₁ l₁) where
@@ -73,24 +80,63 @@ module _ (o m : ℕ) (w : Walk) (vs ts ps bs l : List ℕ) (two : 2 ≤ m) (R : 
           log-room = omega (arith, R .log-room, D .log-kept, D .went .count, front-length, eparts);
         }
 
-    is₁ : unmarked (up m) vs₁ ts₁ bs₁ x ≡ entering o m (w .b) (unmarked (up m) vs ts bs w)
-    is₁ = D .is (up m) (omega arith)
+    -- the state before the network's steps and after those before its halves, where none of 512 pairs is marked
+    abbrev before : State
+    before = unmarked 512 vs ts bs w
 
-    pub tidy-top : Tidy (1024 + 2 * x .b) (unmarked 0 vs₁ ts₁ bs₁ x)
-    tidy-top =
-        let small : 1024 + 2 * w .b ≤ 32768 = omega (arith, R .few) in
-        let s : State = unmarked (up m) vs ts bs w in
-        let T₁ : Tidy (1024 + 2 * w .b) (entering o m (w .b) s) =
-        tidy5 (within o m (w .b)) (omega (arith, R .places)) (1024 + 2 * w .b) small (inputSteps paper (within o m (w .b)) s)
-        (tidy-input (within o m (w .b)) (omega (arith, R .places)) (1024 + 2 * w .b) small s T)
-        in
-        tidy-is _ (sym is₁) (tidy-more (1024 + 2 * w .b) (1024 + 2 * x .b) (entering o m (w .b) s) (omega (arith, D .went .bit)) T₁)
+    abbrev N : Subnetwork
+    N = within o m (w .b)
 
-    halfway₁ : Halfway o m ts₁
-    halfway₁ = rw (ap (λ (s : State). s .trails) is₁) (halfway-enter o m two (w .b) (unmarked (up m) vs ts bs w) (R .trails-room) L)
+    abbrev U : Unlike m (λ i. o + i)
+    U = unlike-from o m
+
+    abbrev entered : State
+    entered = entering o m (w .b) before
+
+    small : m ≤ 1024
+    small = omega (arith, R .places)
+
+    is₁ : unmarked 512 vs₁ ts₁ bs₁ x ≡ entered
+    is₁ = D .is 512 (omega (arith, R .places))
+
+    abbrev top-order : List ℕ
+    top-order = orderIn paper-lawful N U two (S .order) (S .permutation) before (S .holding) false
+
+    abbrev bottom-order : List ℕ
+    bottom-order = orderIn paper-lawful N U two (S .order) (S .permutation) before (S .holding) true
+
+    top-permutation : IsPermutation (up m) top-order
+    top-permutation = half-order paper-lawful N U two (S .order) (S .permutation) before (S .holding) false
+
+    bottom-permutation : IsPermutation (m - up m) bottom-order
+    bottom-permutation = half-order paper-lawful N U two (S .order) (S .permutation) before (S .holding) true
+
+    holding-top : Holding (within o (up m) (w .b + (up m - 1))) top-order entered
+    holding-top = top-holding paper-lawful N U two (S .order) (S .permutation) before (S .holding)
+
+    pub ordered-top : Ordered (within o (up m) (x .b)) (unmarked 512 vs₁ ts₁ bs₁ x)
+    ordered-top =
+        record {
+          order = top-order;
+          permutation = top-permutation;
+          holding =
+              subst (λ b. Holding (within o (up m) b) top-order (unmarked 512 vs₁ ts₁ bs₁ x)) (sym (D .went .bit))
+              (subst (Holding (within o (up m) (w .b + (up m - 1))) top-order) (sym is₁) holding-top);
+        }
+
+    tidy-entered : Tidy entered
+    tidy-entered =
+        tidy5 N small (inputSteps paper N before) (tidy-input N small before (order-small N (S .order) before small (S .permutation) (S .holding)) T)
+
+    pub tidy-top : Tidy (unmarked 512 vs₁ ts₁ bs₁ x)
+    tidy-top = tidy-is (sym is₁) tidy-entered
+
+    halfway₁ : (i : ℕ) → i < m → (getD ts₁ (o + i) 0 / 2 + 1) * (m - 1) ≤ 1023
+    halfway₁ = rw (ap (λ (s : State). s .trails) is₁) (halfway o m (w .b) two before S (R .trails-room) L)
 
     pub lengthens-top : Lengthens o (up m) ts₁
-    lengthens-top = halfway-top o m two ts₁ halfway₁
+    unfolding Lengthens
+    lengthens-top i l = half-fits m (getD ts₁ (o + i) 0) (up m) two (omega arith) (halfway₁ i (omega arith))
 
     module _ {y : Walk}
         {vs₂ ts₂ ps₂ bs₂ l₂ : List ℕ}
@@ -110,20 +156,53 @@ module _ (o m : ℕ) (w : Walk) (vs ts ps bs l : List ℕ) (two : 2 ≤ m) (R : 
             log-room = omega (arith, R .log-room, D .log-kept, D₂ .log-kept, D .went .count, count₂, front-length, eparts);
           }
 
-      is₂ : unmarked (up m) vs₂ ts₂ bs₂ y ≡ setNet paper (network (up m)) (λ i. o + i) (x .b) (unmarked (up m) vs₁ ts₁ bs₁ x)
-      is₂ = D₂ .is (up m) (omega arith)
+      -- the top's steps, on the definition's state
+      abbrev above : State
+      above = setNet paper (network (up m)) (λ i. o + i) (w .b + (up m - 1)) entered
 
-      pub tidy-bottom : Tidy (1024 + 2 * y .b) (unmarked 0 vs₂ ts₂ bs₂ y)
-      tidy-bottom =
-          rw (D₂ .went .bit)
-          (tidy-is _ (sym is₂)
-          (tidy-net (sized (up m)) o (x .b) (unmarked (up m) vs₁ ts₁ bs₁ x) (omega (arith, R .places)) (room-top .few) tidy-top))
+      is₂ : unmarked 512 vs₂ ts₂ bs₂ y ≡ above
+      is₂ =
+          D₂ .is 512 (omega (arith, R .places))
+          ∙ ap (λ b. setNet paper (network (up m)) (λ i. o + i) b (unmarked 512 vs₁ ts₁ bs₁ x)) (D .went .bit)
+          ∙ ap (setNet paper (network (up m)) (λ i. o + i) (w .b + (up m - 1))) is₁
+
+      sets-top : Sets paper (network (up m)) (within o (up m) (w .b + (up m - 1))) top-order entered above
+      sets-top =
+          net-sets paper-lawful (λ i. o + i) (w .b + (up m - 1)) (sized (up m)) (unlike-from o (up m)) top-order top-permutation entered holding-top
+
+      bottom-bit : y .b ≡ w .b + ((up m - 1) + W (up m))
+      bottom-bit = omega (arith, D .went .bit, D₂ .went .bit)
+
+      holding-bottom : Holding (lying (λ i. o + (up m + i)) (m - up m) (w .b + ((up m - 1) + W (up m)))) bottom-order above
+      holding-bottom = bottom-holding paper-lawful N U two (S .order) (S .permutation) before (S .holding) (network (up m)) above sets-top
+
+      pub ordered-bottom : Ordered (within (o + up m) (m - up m) (y .b)) (unmarked 512 vs₂ ts₂ bs₂ y)
+      ordered-bottom =
+          record {
+            order = bottom-order;
+            permutation = bottom-permutation;
+            holding =
+                subst (λ (place : ℕ → ℕ). Holding (lying place (m - up m) (y .b)) bottom-order (unmarked 512 vs₂ ts₂ bs₂ y)) (sym (further o (up m)))
+                (subst (λ b. Holding (lying (λ i. o + (up m + i)) (m - up m) b) bottom-order (unmarked 512 vs₂ ts₂ bs₂ y)) (sym bottom-bit)
+                (subst (Holding (lying (λ i. o + (up m + i)) (m - up m) (w .b + ((up m - 1) + W (up m)))) bottom-order) (sym is₂) holding-bottom));
+          }
+
+      tidy-above : Tidy above
+      tidy-above =
+          tidy-net (λ i. o + i) (w .b + (up m - 1)) (sized (up m)) (unlike-from o (up m)) top-order top-permutation entered holding-top (omega arith) tidy-entered
+
+      pub tidy-bottom : Tidy (unmarked 512 vs₂ ts₂ bs₂ y)
+      tidy-bottom = tidy-is (sym is₂) tidy-above
 
       pub lengthens-bottom : Lengthens (o + up m) (m - up m) ts₂
-      lengthens-bottom =
-          halfway-bottom o m two ts₂
-          (halfway-kept o m two o (up m) (x .b) (unmarked (up m) vs₁ ts₁ bs₁ x) (unmarked (up m) vs₂ ts₂ bs₂ y) (omega arith) (omega arith)
-          (omega (arith, R .trails-room, D .trails-kept)) is₂ halfway₁)
+      unfolding Lengthens
+      lengthens-bottom i l =
+          let at : o + up m + i ≡ o + (up m + i) = omega arith in
+          let off = half-apart paper-lawful N U two (S .order) (S .permutation) before (S .holding) true false true≢false i l in
+          let same : getD ts₂ (o + (up m + i)) 0 ≡ getD ts₁ (o + (up m + i)) 0 =
+          ap (λ (s : State). getD (s .trails) (o + (up m + i)) 0) is₂ ∙ sets-top .framed .trails-off (o + (up m + i)) off
+          ∙ ap (λ (s : State). getD (s .trails) (o + (up m + i)) 0) (sym is₁) in
+          rw (at, same) (half-fits m (getD ts₁ (o + (up m + i)) 0) (m - up m) two (omega arith) (halfway₁ (up m + i) (omega arith)))
 
       module _ {z : Walk}
           {vs₃ ts₃ ps₃ bs₃ l₃ : List ℕ}
@@ -131,16 +210,48 @@ module _ (o m : ℕ) (w : Walk) (vs ts ps bs l : List ℕ) (two : 2 ≤ m) (R : 
         count₃ : z .e ≡ y .e + E (m - up m)
         count₃ = omega (arith, D₃ .went .count, length-entries paper (sized (m - up m)) (λ i. o + up m + i))
 
-        tidy₃ : Tidy 32768 (unmarked 0 vs₃ ts₃ bs₃ z)
+        -- the bottom's steps
+        abbrev below : State
+        below = setNet paper (network (m - up m)) (λ i. o + (up m + i)) (w .b + ((up m - 1) + W (up m))) above
+
+        is₃ : unmarked 512 vs₃ ts₃ bs₃ z ≡ below
+        is₃ =
+            D₃ .is 512 (omega (arith, R .places))
+            ∙ ap (λ (place : ℕ → ℕ). setNet paper (network (m - up m)) place (y .b) (unmarked 512 vs₂ ts₂ bs₂ y)) (further o (up m))
+            ∙ ap (λ b. setNet paper (network (m - up m)) (λ i. o + (up m + i)) b (unmarked 512 vs₂ ts₂ bs₂ y)) bottom-bit
+            ∙ ap (setNet paper (network (m - up m)) (λ i. o + (up m + i)) (w .b + ((up m - 1) + W (up m)))) is₂
+
+        unlike-bottom : Unlike (m - up m) (λ i. o + (up m + i))
+        unfolding Unlike
+        unlike-bottom i j li lj e = omega arith
+
+        sets-bottom : Sets paper (network (m - up m)) (lying (λ i. o + (up m + i)) (m - up m) (w .b + ((up m - 1) + W (up m)))) bottom-order above below
+        sets-bottom =
+            net-sets paper-lawful (λ i. o + (up m + i)) (w .b + ((up m - 1) + W (up m))) (sized (m - up m)) unlike-bottom bottom-order bottom-permutation above holding-bottom
+
+        tidy₃ : Tidy (unmarked 512 vs₃ ts₃ bs₃ z)
         tidy₃ =
-            tidy-is _ (sym (D₃ .is (up m) (omega arith)))
-            (tidy-more (1024 + 2 * (y .b + W (m - up m))) 32768
-            (setNet paper (network (m - up m)) (λ i. o + up m + i) (y .b) (unmarked (up m) vs₂ ts₂ bs₂ y)) (omega (arith, room-bottom .few))
-            (tidy-net (sized (m - up m)) (o + up m) (y .b) (unmarked (up m) vs₂ ts₂ bs₂ y) (omega (arith, R .places)) (room-bottom .few) tidy-bottom))
+            tidy-is (sym is₃)
+            (tidy-net (λ i. o + (up m + i)) (w .b + ((up m - 1) + W (up m))) (sized (m - up m)) unlike-bottom bottom-order bottom-permutation above holding-bottom (omega arith) tidy-above)
+
+        -- each half is sorted: a value is below k
+        value-at : (j : ℕ) (t : Bool) → j < sizeOf m t → getD (below .values) (o + paper .enc (up m) (j, t)) 0 ≡ j
+        value-at =
+            value-in paper-lawful N U two (S .order) (S .permutation) before (S .holding) (network (up m)) above sets-top (network (m - up m)) below sets-bottom
+
+        values₃ : Within o m 32768 vs₃
+        unfolding Within
+        values₃ q l =
+            let p : Side = paper .dec (up m) q in
+            let e : paper .enc (up m) p ≡ q = paper-lawful .enc-dec (up m) q (omega arith) in
+            let lp : p .0 < up m = paper-lawful .dec< (up m) q (omega arith) in
+            let lies : p .0 < sizeOf m (p .1) = real⁻ paper paper-lawful m p lp (rw e l) in
+            rw (ap (λ (s : State). s .values) is₃)
+            (subst (λ i. getD (below .values) (o + i) 0 < 32768) e (rw (value-at (p .0) (p .1) lies) (omega (arith, R .places))))
 
         -- what step 6 asks
         pub asks-six : (2 ≤ m) × (o + m ≤ 1024) × (o + m ≤ length vs₃) × (o + m ≤ length ts₃) × (z .b + (m - up m) ≤ length bs₃)
-            × (entryWords * (z .e + 1) ≤ length l₃) × Below 2 bs₃ × Below 32768 vs₃
+            × (entryWords * (z .e + 1) ≤ length l₃) × Below 2 bs₃ × Within o m 32768 vs₃
         asks-six = (
           two,
           R .places,
@@ -149,13 +260,13 @@ module _ (o m : ℕ) (w : Walk) (vs ts ps bs l : List ℕ) (two : 2 ≤ m) (R : 
           omega (arith, R .bits-room, D .bits-kept, D₂ .bits-kept, D₃ .bits-kept, D .went .bit, D₂ .went .bit, D₃ .went .bit, wparts),
           omega (arith, R .log-room, D .log-kept, D₂ .log-kept, D₃ .log-kept, D .went .count, count₂, count₃, front-length, eparts),
           tidy₃ .bits-below,
-          tidy₃ .values-below,
+          values₃,
         )
 
         module _ {r : Walk}
             {vs₄ ts₄ bs₄ l₄ : List ℕ}
             (G : Went (entry 6 o m ∷ []) (m - up m) z r l₃ l₄)
-            (S : (ms : List ℕ) → z .b ≡ outputBit (within o m (w .b))
+            (six : (ms : List ℕ) → z .b ≡ outputBit (within o m (w .b))
             → state vs₄ ts₄ ms bs₄ r ≡ step6 paper (within o m (w .b)) (state vs₃ ts₃ ms bs₃ z)) where
           pub whole-log : Went (entriesOf paper (network m) (λ i. o + i)) (W m) w r l l₄
           whole-log =
@@ -171,4 +282,4 @@ module _ (o m : ℕ) (w : Walk) (vs ts ps bs l : List ℕ) (two : 2 ≤ m) (R : 
           whole-state j h =
               net-split o m (w .b) (x .b) (y .b) (z .b) (unmarked j vs ts bs w) (unmarked j vs₁ ts₁ bs₁ x) (unmarked j vs₂ ts₂ bs₂ y) (unmarked j vs₃ ts₃ bs₃ z)
               (unmarked j vs₄ ts₄ bs₄ r) two (D .is j h) (D .went .bit) (D₂ .is j (omega arith)) (D₂ .went .bit) (D₃ .is j (omega arith)) (D₃ .went .bit)
-              (S (replicate j 0))
+              (six (replicate j 0))

@@ -24,9 +24,8 @@ pub record Room (o m : ℕ) (w : Walk) (values trails pairs bits log : List ℕ)
   pub few : w .b + W m ≤ 9217
   pub log-room : entryWords * (w .e + E m) ≤ length log
 
--- hidden numbers are small, so that no sum of 16 bits overflows: values are below v, bits are 0 or 1
-pub record TidyIn (v : ℕ) (values bits : List ℕ) (f c g s : ℕ) : Type 0 where
-  pub values-below : Below v values
+-- bits are 0 or 1, and the walk's numbers are small, so that no sum of 16 bits overflows
+pub record TidyIn (bits : List ℕ) (f c g s : ℕ) : Type 0 where
   pub bits-below : Below 2 bits
   pub f-below : f < 32768
   pub c-below : c < 32768
@@ -34,8 +33,8 @@ pub record TidyIn (v : ℕ) (values bits : List ℕ) (f c g s : ℕ) : Type 0 wh
   pub s-below : s < 32768
 
 -- those of a state
-abbrev pub Tidy : ℕ → State → Type 0
-Tidy v x = TidyIn v (x .values) (x .bits) (x .f) (x .c) (x .g) (x .s)
+abbrev pub Tidy : State → Type 0
+Tidy x = TidyIn (x .bits) (x .f) (x .c) (x .g) (x .s)
 
 -- and trails are short: a network of m places can lengthen each of those of its places
 unfoldable pub Lengthens : ℕ → ℕ → List ℕ → Type 0

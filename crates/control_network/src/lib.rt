@@ -1,7 +1,7 @@
 // The setter's steps on hidden tables in their sequence, by recursion on the halves. Hidden: the tables, f, c, g, s, any and the
 // bits. No branch and no index below depends on one of these. `row` and `pairs` are lent for a network's rounds alone: what they hold
 // before and after does not matter. Public for the crate `control_order`, whose callers have asked the questions of `set`: so
-// `set_network` may `require` sizes.
+// `set_network` may `require` sizes, and that its places hold an order.
 ghost use mathlib.Core.Path.{_≡_};
 ghost use mathlib.Core.List.{List, [], _∷_, _++_};
 ghost use Prim.Native.Nat.{ℕ, _+_, _*_, _-_, _≤_, _<_};
@@ -13,6 +13,8 @@ ghost use Rattle.network.specs.Log.{entry, entryWords};
 ghost use Rattle.steps.specs.Steps.{step5};
 ghost use Rattle.steps.specs.Sequence.{rounds, inputEntries, entriesOf};
 ghost use Rattle.steps.specs.Fold.{roundsOf, inputSteps, setNet};
+ghost use Rattle.steps_canonical.specs.Table.{Ordered};
+ghost use Rattle.control_sweeps.specs.Tables.{Within};
 ghost use Rattle.control_rows.specs.Rows.{Gathered, Padded};
 ghost use Rattle.control_pairs.specs.Pairs.{marksIn, bitsIn};
 ghost use Rattle.control_walk.specs.Walks.{state, lying, within, Went};
@@ -83,7 +85,7 @@ fn settle_inputs(
 ) -> control_walk::Walk
     requires { ⌜ (2 ≤ m) × (o + m ≤ 1024) × (o + m ≤ length (now vals)) × (512 ≤ length (now pairs))
         × (w .b + (up m - 1) ≤ length (now bits)) × (entryWords * (w .e + 3 * up m) ≤ length (now log))
-        × Tidy 32768 (unmarked 0 (now vals) [] (now bits) w) ⌝ }
+        × Within o m 32768 (now vals) × (w .f < 32768) × (w .c < 32768) ⌝ }
     ensures { λ r. ⌜ Went (rounds (up m) o m) 0 w r (now (log .entry)) (now (log .exit)) × ((ts : List ℕ) (j : ℕ) → up m ≤ j
         → state (now (vals .entry)) ts (marksIn (up m) (now (pairs .exit)) (replicate j 0)) (now (bits .exit)) r
         ≡ roundsOf paper (within o m (w .b)) (up m) (unmarked j (now (vals .entry)) ts (now (bits .entry)) w)) ⌝ }
@@ -110,7 +112,8 @@ fn input_steps(
     w: control_walk::Walk,
 ) -> control_walk::Walk
     requires { ⌜ (2 ≤ m) × Room o m w (now vals) (now trails) (now pairs) (now bits) (now log)
-        × Tidy 32768 (unmarked 0 (now vals) (now trails) (now bits) w) ⌝ }
+        × Tidy (unmarked 512 (now vals) (now trails) (now bits) w)
+        × Ordered (within o m (w .b)) (unmarked 512 (now vals) (now trails) (now bits) w) ⌝ }
     ensures { λ r. ⌜ Went (inputEntries o m) (up m - 1) w r (now (log .entry)) (now (log .exit)) × ((j : ℕ) → up m ≤ j
         → unmarked j (now (vals .exit)) (now (trails .exit)) (now (bits .exit)) r
         ≡ inputSteps paper (within o m (w .b)) (unmarked j (now (vals .entry)) (now (trails .entry)) (now (bits .entry)) w)) ⌝ }
@@ -135,7 +138,8 @@ fn enter(
     w: control_walk::Walk,
 ) -> control_walk::Walk
     requires { ⌜ (2 ≤ m) × Room o m w (now vals) (now trails) (now pairs) (now bits) (now log)
-        × Tidy 32768 (unmarked 0 (now vals) (now trails) (now bits) w) × Lengthens o m (now trails) ⌝ }
+        × Tidy (unmarked 512 (now vals) (now trails) (now bits) w)
+        × Ordered (within o m (w .b)) (unmarked 512 (now vals) (now trails) (now bits) w) × Lengthens o m (now trails) ⌝ }
     ensures { λ r. ⌜ Went (inputEntries o m ++ (entry 5 o m ∷ [])) (up m - 1) w r (now (log .entry)) (now (log .exit))
         × ((j : ℕ) → up m ≤ j → unmarked j (now (vals .exit)) (now (trails .exit)) (now (bits .exit)) r
         ≡ step5 paper (within o m (w .b)) (inputSteps paper (within o m (w .b)) (unmarked j (now (vals .entry))
@@ -158,7 +162,8 @@ pub fn set_network(
     w: control_walk::Walk,
 ) -> control_walk::Walk
     requires { ⌜ Room o m w (now vals) (now trails) (now pairs) (now bits) (now log)
-        × Tidy (1024 + 2 * w .b) (unmarked 0 (now vals) (now trails) (now bits) w) × Lengthens o m (now trails) ⌝ }
+        × Tidy (unmarked 512 (now vals) (now trails) (now bits) w)
+        × Ordered (within o m (w .b)) (unmarked 512 (now vals) (now trails) (now bits) w) × Lengthens o m (now trails) ⌝ }
     ensures { λ r. ⌜ Went (entriesOf paper (network m) (λ i. o + i)) (W m) w r (now (log .entry)) (now (log .exit))
         × ((j : ℕ) → up m ≤ j → unmarked j (now (vals .exit)) (now (trails .exit)) (now (bits .exit)) r
         ≡ setNet paper (network m) (λ i. o + i) (w .b) (unmarked j (now (vals .entry)) (now (trails .entry))

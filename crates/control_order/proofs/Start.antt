@@ -9,6 +9,7 @@ use lib.ListN.{length, getD, take, replicate, length-replicate}
 use lib.Seq.{ext-getD}
 use Rattle.answers.specs.Buffers.{overlay}
 use Rattle.counts.specs.Counts.{up, W, E}
+use Rattle.permutation.specs.Permutations.{IsPermutation}
 use Rattle.network.specs.Wiring.{paper}
 use Rattle.network.specs.Network.{network}
 use Rattle.network.specs.Log.{entryWords, words}
@@ -22,10 +23,11 @@ use Rattle.steps.proofs.Places.{Unlike}
 use Rattle.steps.proofs.Running.{run-is-fold}
 use Rattle.steps.proofs.Sweeps.{length-each, each-at}
 use Rattle.steps.proofs.Lengths.{length-entries}
+use Rattle.steps_canonical.specs.Table.{Ordered}
 use Rattle.control_sweeps.specs.Tables.{Below}
 use Rattle.control_pairs.proofs.Held.{zero-at}
 use Rattle.control_walk.specs.declared.Walk.{Walk}
-use Rattle.control_walk.specs.Walks.{Went}
+use Rattle.control_walk.specs.Walks.{within, Went}
 use Rattle.control_network.specs.Inner.{Room, Tidy, Lengthens, unmarked}
 use Rattle.control_order.specs.Inner.{Sets}
 
@@ -69,15 +71,32 @@ zeros-lengthen n h i l = rw (zero-at n (0 + i)) (omega arith)
 abbrev pub still : Walk
 still = record { f = 0; c = 0; g = 0; s = 0; any = 0; e = 0; b = 0 }
 
-pub tidy-start : (order : List ℕ) → Below 1024 order → Tidy 1024 (start order)
-tidy-start order h =
+pub tidy-start : (order : List ℕ) → Tidy (start order)
+tidy-start order =
     record {
-      values-below = h;
       bits-below = zeros-below 2 (W (length order)) (omega arith);
       f-below = omega arith;
       c-below = omega arith;
       g-below = omega arith;
       s-below = omega arith;
+    }
+
+pub ordered-start : (order vs ts bs : List ℕ) → length order ≤ 1024 → IsPermutation (length order) order → vs ≡ order
+    → length ts ≡ length order → length bs ≡ W (length order) → Ordered (within 0 (length order) 0) (unmarked 512 vs ts bs still)
+ordered-start order vs ts bs h P e lt lb =
+    let lv : length vs ≡ length order = ap length e in
+    record {
+      order = order;
+      permutation = P;
+      holding =
+          record {
+            values-room = λ i l. omega (arith, lv);
+            trails-room = λ i l. omega (arith, lt);
+            marks-room = omega (arith, length-replicate {A = ℕ} 512 0);
+            bits-room = omega (arith, lb);
+            unmarked = λ i. zero-at 512 i;
+            order = λ i l. ap (λ (k : ℕ). getD vs k 0) (zero-add i) ∙ ap (λ (l : List ℕ). getD l i 0) e;
+          };
     }
 
 -- the tables that the code prepares are the start

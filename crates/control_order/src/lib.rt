@@ -5,7 +5,7 @@ ghost use Prim.Native.Nat.{_*_, _≤_};
 ghost use lib.ListN.{length, replicate};
 ghost use Rattle.counts.specs.Counts.{W, E};
 ghost use Rattle.network.specs.Log.{entryWords};
-ghost use Rattle.control_sweeps.specs.Tables.{Below};
+ghost use Rattle.permutation.specs.Permutations.{IsPermutation};
 ghost use Rattle.control_order.specs.Inner.{Sets};
 
 // The table starts as the order.
@@ -31,7 +31,7 @@ fn set_table(
     bits: &mut [u8],
     log: &mut [u16],
 ) -> usize
-    requires { ⌜ (length (now order) ≤ 1024) × Below 1024 (now order) × (length (now vals) ≡ length (now order))
+    requires { ⌜ (length (now order) ≤ 1024) × IsPermutation (length (now order)) (now order) × (length (now vals) ≡ length (now order))
         × (now trails ≡ replicate (length (now order)) 0) × (512 ≤ length (now pairs))
         × (length (now bits) ≡ W (length (now order))) × (length (now bits) ≤ 9217)
         × (entryWords * E (length (now order)) ≤ length (now log)) ⌝ }
@@ -66,7 +66,7 @@ fn set_table(
 // The setter after its questions: sets an order, logs, and counts the entries. Public for the crates that set orders of which
 // the questions are known to get a yes.
 pub fn set_order(order: &[u16], bits: &mut [u8], log: &mut [u16]) -> usize
-    requires { ⌜ (length (now order) ≤ 1024) × Below 1024 (now order) × (length (now bits) ≡ W (length (now order)))
+    requires { ⌜ (length (now order) ≤ 1024) × IsPermutation (length (now order)) (now order) × (length (now bits) ≡ W (length (now order)))
         × (length (now bits) ≤ 9217) × (entryWords * E (length (now order)) ≤ length (now log)) ⌝ }
     ensures { λ r. ⌜ Sets (now (order .entry)) (now (log .entry)) r (now (bits .exit)) (now (log .exit)) ⌝ }
 {

@@ -35,9 +35,9 @@ pub ahead-below : (o m b : ℕ) (F : ℕ → ℕ → ℕ) (xs x₀ : List ℕ) (
 unfolding Within
 ahead-below o m b F xs x₀ i w e l = rw (e, each-ahead o i F x₀ i (omega arith)) (w i l)
 
-pub below-within : (o m b : ℕ) (xs : List ℕ) → Below b xs → Within o m b xs
-unfolding Below Within
-below-within o m b xs h i l = h (o + i)
+pub within-at : (o m b : ℕ) (xs : List ℕ) (i : ℕ) → Within o m b xs → i < m → getD xs (o + i) 0 < b
+unfolding Within
+within-at o m b xs i h l = h i l
 
 pub at-place : (b : ℕ) (xs : List ℕ) (i : ℕ) → Below b xs → getD xs i 0 < b
 unfolding Below

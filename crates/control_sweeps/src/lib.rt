@@ -60,7 +60,7 @@ pub fn last_bits(bits: &mut [u8], b: usize, n: usize, trails: &[u16], o: usize)
 // Each trail of the m places from o gains 1 where the value is k or more, else 0.
 pub fn gain_bits(trails: &mut [u16], o: usize, m: usize, vals: &[u16], k: u16)
     requires { ⌜ (k ≤ 1024) × (o + m ≤ length (now trails)) × (o + m ≤ length (now vals)) × Within o m 32768 (now trails)
-        × Below 32768 (now vals) ⌝ }
+        × Within o m 32768 (now vals) ⌝ }
     ensures { λ _. ⌜ now (trails .exit) ≡ each (λ i. o + i) m (λ i t. t * 2 + digit (paper .dec k (getD
         (now (vals .entry)) (o + i) 0) .1)) (now (trails .entry)) ⌝ }
 {
@@ -74,7 +74,7 @@ pub fn gain_bits(trails: &mut [u16], o: usize, m: usize, vals: &[u16], k: u16)
 
 // Each value of k or more, of the m places from o, loses k.
 pub fn lose(vals: &mut [u16], o: usize, m: usize, k: u16)
-    requires { ⌜ (k ≤ 1024) × (o + m ≤ length (now vals)) × Below 32768 (now vals) ⌝ }
+    requires { ⌜ (k ≤ 1024) × (o + m ≤ length (now vals)) × Within o m 32768 (now vals) ⌝ }
     ensures { λ _. ⌜ now (vals .exit) ≡ each (λ i. o + i) m (λ i v. paper .dec k v .0) (now (vals .entry)) ⌝ }
 {
     let mut i = 0;
@@ -86,7 +86,7 @@ pub fn lose(vals: &mut [u16], o: usize, m: usize, k: u16)
 
 // Each value of the m places from o regains k where the last bit of its trail is 1.
 pub fn regain(vals: &mut [u16], o: usize, m: usize, trails: &[u16], k: u16)
-    requires { ⌜ (k ≤ 1024) × (o + m ≤ length (now vals)) × (o + m ≤ length (now trails)) × Below 32768 (now vals) ⌝ }
+    requires { ⌜ (k ≤ 1024) × (o + m ≤ length (now vals)) × (o + m ≤ length (now trails)) × Within o m 32768 (now vals) ⌝ }
     ensures { λ _. ⌜ now (vals .exit) ≡ each (λ i. o + i) m (λ i v. paper .enc k (
       v,
       eqb (getD

@@ -29,7 +29,8 @@ use Rattle.steps.proofs.Sweeps.{length-each, each-at, each-off, length-act}
 use Rattle.steps_canonical.proofs.Round.{Ready}
 use Rattle.steps_canonical.proofs.Rounds.{Passed, inputOf, rounds-keep, input-count, input-bits, input-apart, input-lowest}
 use Rattle.steps_canonical.proofs.Turns.{turned-real, turned-off, turned-at}
-use Rattle.steps_canonical.proofs.Table.{Holding, Off, Framed, framed-same}
+use Rattle.steps_canonical.specs.Table.{Holding}
+use Rattle.steps_canonical.proofs.Table.{Off, Framed, framed-same}
 
 -- what the rule asks of input bits alone
 pub record Parted (w : Wiring) (m : ℕ) (o input : List ℕ) : Type 0 where
@@ -167,7 +168,7 @@ module _ {w : Wiring} (L : Lawful w) (N : Subnetwork) (U : Unlike (N .size) (N .
         trail-at = acted-at (after .trails) (x .trails) (P .trails-same) (H .trails-room);
       }
 
-  turned : Turned (inputSteps w N x)
+  pub turned : Turned (inputSteps w N x)
   unfolding inputSteps
   turned = go (decLt 2 (N .size))
     where

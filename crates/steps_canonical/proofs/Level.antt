@@ -20,7 +20,8 @@ use Rattle.steps.specs.Steps.{digit, step5, step6}
 use Rattle.steps.specs.Fold.{inputSteps}
 use Rattle.steps.proofs.Places.{Unlike, sizeOf, real, real⁻, sides-unlike}
 use Rattle.steps_canonical.proofs.Parts.{part, length-part, part-split, same-part}
-use Rattle.steps_canonical.proofs.Table.{Holding, Off, Framed, framed-then, framed-wider, outside-wider}
+use Rattle.steps_canonical.specs.Table.{Holding}
+use Rattle.steps_canonical.proofs.Table.{Off, Framed, framed-then, framed-wider, outside-wider}
 use Rattle.steps_canonical.proofs.Rounds.{inputOf}
 use Rattle.steps_canonical.proofs.Turns.{turned-real}
 use Rattle.steps_canonical.proofs.Entering.{Entered, entered}
@@ -79,7 +80,7 @@ module _ {w : Wiring} (L : Lawful w) (N : Subnetwork) (U : Unlike (N .size) (N .
   half-off : (t : Bool) (q : ℕ) → Off N q → Off (halfOf w N t) q
   half-off t q d i l = d (w .enc k (i, t)) (real w L m t i l)
 
-  half-apart : (s t : Bool) → s ≢ t → (i : ℕ) → i < sizeOf m s → Off (halfOf w N t) (at (i, s))
+  pub half-apart : (s t : Bool) → s ≢ t → (i : ℕ) → i < sizeOf m s → Off (halfOf w N t) (at (i, s))
   half-apart s t d i l j lj e = d (ap (λ (p : Side). p .1) (sides-unlike w L m (N .place) U s t i j l lj e))
 
   half-fits : (t : Bool) → (N .bit ≤ halfBit N t) × (halfBit N t + W (sizeOf m t) ≤ N .bit + W m)
@@ -135,7 +136,7 @@ module _ {w : Wiring} (L : Lawful w) (N : Subnetwork) (U : Unlike (N .size) (N .
       to-b : Framed N (N .bit) (W m) x b
       to-b = framed-then to-a (widen true bottom a b (orderIn true) B)
 
-      value-in : (j : ℕ) (t : Bool) → j < sizeOf m t → getD (b .values) (at (j, t)) 0 ≡ j
+      pub value-in : (j : ℕ) (t : Bool) → j < sizeOf m t → getD (b .values) (at (j, t)) 0 ≡ j
       value-in j false l = B .framed .values-off (at (j, false)) (half-apart false true false≢true j l) ∙ A .sorted j l
       value-in j true l = B .sorted j l
 

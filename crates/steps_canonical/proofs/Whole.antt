@@ -25,7 +25,8 @@ use Rattle.steps.specs.Fold.{inputSteps, setNet}
 use Rattle.steps.proofs.Places.{Unlike, half-unlike}
 use Rattle.steps.proofs.Running.{run-is-fold}
 use Rattle.steps_canonical.proofs.Parts.{part}
-use Rattle.steps_canonical.proofs.Table.{Holding, framed-same}
+use Rattle.steps_canonical.specs.Table.{Holding}
+use Rattle.steps_canonical.proofs.Table.{framed-same}
 use Rattle.steps_canonical.proofs.Level.{Sets, halfOf, orderIn, half-order, top-holding, bottom-holding, level}
 
 abbrev pub at : (ℕ → ℕ) → ℕ → ℕ → Subnetwork

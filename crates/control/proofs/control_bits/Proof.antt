@@ -6,7 +6,7 @@ use mathlib.Core.Path.{_≡_, refl, sym, ap, _∙_}
 use Prim.Native.Nat.{_≤_}
 use lib.ListN.{length}
 use Rattle.counts.specs.Counts.{W}
-use Rattle.control_order.proofs.Passed.{below-passed}
+use Rattle.permutation.proofs.Permutations.{passes-permutation}
 use Rattle.control.proofs.Asked.{no-1, no-4, no-5, no-6, all-yes, refused, taken}
 use Rattle.answers.specs.Answers.{refusal}
 use Rattle.permutation.specs.Permutations.{firstBadEntry}
@@ -76,7 +76,7 @@ set-order-requires c κs =
     let n : length (a .order .now) ≤ 1024 = b8 .if1 .left in
     let b : length (a .bits .now) ≡ W (length (a .order .now)) = b6 .if2 .left ∙ b7 .switches .ensures .0 in (
       n,
-      below-passed (a .order .now) n (sym (c .before .before .before .first-bad-entry .ensures) ∙ c .before .before .if4 .left),
+      passes-permutation (a .order .now) (sym (c .before .before .before .first-bad-entry .ensures) ∙ c .before .before .if4 .left),
       b,
       omega (arith, b, b7 .switches .ensures),
       omega (arith, b4 .if3 .left, b5 .entries .ensures .0),

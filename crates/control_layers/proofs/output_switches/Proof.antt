@@ -23,7 +23,7 @@ act-on-requires c κs =
       omega (arith, a .pre .0),
       omega (arith, a .pre .0, a .pre .2),
       search needs,
-      rw (b4 .last-bits .ensures) (each-below 2 2 _ _ _ (a .args .bits .now) (omega arith) (a .pre .5) (λ i x h. omega arith)),
+      rw (b4 .last-bits .ensures) (each-below 2 _ _ _ (a .args .bits .now) (a .pre .5) (λ i x h. omega arith)),
     )
 
 act-on-requires-2 : tie.Need-act-on-requires-2
@@ -34,7 +34,7 @@ act-on-requires-2 c κs =
       omega (arith, a .pre .0),
       omega (arith, a .pre .0, a .pre .3),
       search needs,
-      rw (b9 .last-bits .ensures) (each-below 2 2 _ _ _ (a .args .bits .now) (omega arith) (a .pre .5) (λ i x h. omega arith)),
+      rw (b9 .last-bits .ensures) (each-below 2 _ _ _ (a .args .bits .now) (a .pre .5) (λ i x h. omega arith)),
     )
 
 same-length : tie.Need-same-length

@@ -5,10 +5,9 @@ use borrow.Author.Needs.{needs}
 use mathlib.Core.Path.{ap}
 use Prim.Native.Nat.{_-_}
 use Rattle.counts.specs.Counts.{up}
-use Rattle.control_sweeps.proofs.Bounds.{act-below}
 use Rattle.control_walk.specs.declared.Walk.{Walk}
 use Rattle.control_walk.proofs.Going.{went-one}
-use Rattle.control_layers.proofs.Stepping.{step6-is}
+use Rattle.control_layers.proofs.Stepping.{outputs-within, step6-is}
 use Rattle.control_layers.proofs.step6.Statement.{statement}
 use Rattle.control_layers.proofs.step6.Tie as tie
 
@@ -27,7 +26,7 @@ regain-requires c κs =
     let b16 = b8 .before .before .before .before .before .before .before .before in
     let a = b16 in
     let S = b8 .output-switches .ensures in
-    (omega (arith, a .pre .1), search needs, search needs, rw (S .values-are) (act-below 32768 _ _ _ _ (a .args .vals .now) (a .pre .7)))
+    (omega (arith, a .pre .1), search needs, search needs, rw (S .values-are) (outputs-within (a .args .o) (a .args .m) 32768 _ _ (a .args .vals .now) (a .pre .7)))
 
 lose-bits-requires : tie.Need-lose-bits-requires
 lose-bits-requires c κs = search needs

@@ -2,13 +2,12 @@
 -- Assumes nothing.
 use native.Mathlib.Omega.{arith}
 use mathlib.Core.Path.{sym, _∙_}
-use Prim.Native.Nat.{ℕ, _+_, _*_, _-_, _≤_, _<_}
+use Prim.Native.Nat.{ℕ, _+_, _-_, _≤_, _<_}
 use Rattle.counts.specs.Counts.{up}
 use Rattle.counts.proofs.Rule.{W-none}
 use Rattle.control_network.specs.Inner.{unmarked}
-use Rattle.control_network.proofs.Bounds.{tidy-more}
 use Rattle.control_network.proofs.Entries.{went-none, went-as, net-none, entries-none}
-use Rattle.control_network.proofs.Whole.{Entered, Halved, room-top, tidy-top, lengthens-top, room-bottom, tidy-bottom, lengthens-bottom, asks-six, whole-log, whole-state}
+use Rattle.control_network.proofs.Whole.{Entered, Halved, room-top, tidy-top, ordered-top, lengthens-top, room-bottom, tidy-bottom, ordered-bottom, lengthens-bottom, asks-six, whole-log, whole-state}
 use borrow.Fn.Kinds.{In}
 use borrow.Fn.PlainCycle.{Measures, is, falls, and}
 use Rattle.control_network.proofs.set_network.Reads as set-network
@@ -67,7 +66,7 @@ set-network-enter-requires t c κs =
     let a = c .before .before .before .before .before .before .before .before .before .before .before .before .args in
     let p = c .before .before .before .before .before .before .before .before .before .before .before .before .pre .1 in
     let two : 2 ≤ a .m = c .before .before .before .before .before .before .if1 .left in
-    (two, p .0, tidy-more (1024 + 2 * a .w .b) 32768 (unmarked 0 (a .vals .now) (a .trails .now) (a .bits .now) (a .w)) (omega (arith, p .0 .few)) (p .1), p .2)
+    (two, p .0, p .1, p .2, p .3)
 
 set-network-set-network-requires : (t : ℕ) → set-network-lts.Need-set-network-requires (
   enter-reads.Asked,
@@ -84,7 +83,7 @@ set-network-set-network-requires t c κs =
     let x = c .before .before .before .before .before .before .before .before .before .before .before .before .before .before .before .before .enter in
     let D₁ : Entered (a .o) (a .m) (a .w) (x .result) (a .vals .now) (a .trails .now) (a .pairs .now) (a .bits .now) (a .log .now) (x .last .0) (x .last .1 .0) (x .last .1 .1 .0) (x .last .1 .1 .1 .1 .0) (x .last .1 .1 .1 .1 .1 .1 .1 .0) = record { went = x .ensures .0; is = x .ensures .1; values-kept = x .kept .0; trails-kept = x .kept .1 .0; pairs-kept = x .kept .1 .1 .0; bits-kept = x .kept .1 .1 .1 .1 .0; log-kept = x .kept .1 .1 .1 .1 .1 .1 .1 .0 } in (
       omega (arith, two, c .before .before .before .before .before .before .before .before .before .before .before .before .before .before .before .before .before .before .before .before .before .before .before .before .before .before .before .before .before .pre .0),
-      (room-top (a .o) (a .m) (a .w) (a .vals .now) (a .trails .now) (a .pairs .now) (a .bits .now) (a .log .now) two (p .0) (p .1) (p .2) D₁, tidy-top (a .o) (a .m) (a .w) (a .vals .now) (a .trails .now) (a .pairs .now) (a .bits .now) (a .log .now) two (p .0) (p .1) (p .2) D₁, lengthens-top (a .o) (a .m) (a .w) (a .vals .now) (a .trails .now) (a .pairs .now) (a .bits .now) (a .log .now) two (p .0) (p .1) (p .2) D₁),
+      (room-top (a .o) (a .m) (a .w) (a .vals .now) (a .trails .now) (a .pairs .now) (a .bits .now) (a .log .now) two (p .0) (p .1) (p .2) (p .3) D₁, tidy-top (a .o) (a .m) (a .w) (a .vals .now) (a .trails .now) (a .pairs .now) (a .bits .now) (a .log .now) two (p .0) (p .1) (p .2) (p .3) D₁, ordered-top (a .o) (a .m) (a .w) (a .vals .now) (a .trails .now) (a .pairs .now) (a .bits .now) (a .log .now) two (p .0) (p .1) (p .2) (p .3) D₁, lengthens-top (a .o) (a .m) (a .w) (a .vals .now) (a .trails .now) (a .pairs .now) (a .bits .now) (a .log .now) two (p .0) (p .1) (p .2) (p .3) D₁),
     )
 
 set-network-add-set-network : (t : ℕ) → set-network-lts.Need-add-set-network (
@@ -124,7 +123,7 @@ set-network-set-network-requires-2 t c κs =
     let y = c .before .before .before .before .before .before .before .before .before .before .before .before .before .before .before .before .set-network in
     let D₂ : Halved (a .o) (up (a .m)) (x .result) (y .result) (x .last .0) (x .last .1 .0) (x .last .1 .1 .0) (x .last .1 .1 .1 .1 .0) (x .last .1 .1 .1 .1 .1 .1 .1 .0) (y .last .0) (y .last .1 .0) (y .last .1 .1 .0) (y .last .1 .1 .1 .1 .0) (y .last .1 .1 .1 .1 .1 .1 .1 .0) = record { went = y .ensures .0; is = y .ensures .1; values-kept = y .kept .0; trails-kept = y .kept .1 .0; pairs-kept = y .kept .1 .1 .0; bits-kept = y .kept .1 .1 .1 .1 .0; log-kept = y .kept .1 .1 .1 .1 .1 .1 .1 .0 } in (
       omega (arith, two, c .before .before .before .before .before .before .before .before .before .before .before .before .before .before .before .before .before .before .before .before .before .before .before .before .before .before .before .before .before .before .before .before .before .before .before .before .before .before .before .before .before .before .before .before .before .before .pre .0),
-      (room-bottom (a .o) (a .m) (a .w) (a .vals .now) (a .trails .now) (a .pairs .now) (a .bits .now) (a .log .now) two (p .0) (p .1) (p .2) D₁ D₂, tidy-bottom (a .o) (a .m) (a .w) (a .vals .now) (a .trails .now) (a .pairs .now) (a .bits .now) (a .log .now) two (p .0) (p .1) (p .2) D₁ D₂, lengthens-bottom (a .o) (a .m) (a .w) (a .vals .now) (a .trails .now) (a .pairs .now) (a .bits .now) (a .log .now) two (p .0) (p .1) (p .2) D₁ D₂),
+      (room-bottom (a .o) (a .m) (a .w) (a .vals .now) (a .trails .now) (a .pairs .now) (a .bits .now) (a .log .now) two (p .0) (p .1) (p .2) (p .3) D₁ D₂, tidy-bottom (a .o) (a .m) (a .w) (a .vals .now) (a .trails .now) (a .pairs .now) (a .bits .now) (a .log .now) two (p .0) (p .1) (p .2) (p .3) D₁ D₂, ordered-bottom (a .o) (a .m) (a .w) (a .vals .now) (a .trails .now) (a .pairs .now) (a .bits .now) (a .log .now) two (p .0) (p .1) (p .2) (p .3) D₁ D₂, lengthens-bottom (a .o) (a .m) (a .w) (a .vals .now) (a .trails .now) (a .pairs .now) (a .bits .now) (a .log .now) two (p .0) (p .1) (p .2) (p .3) D₁ D₂),
     )
 
 set-network-step6-requires : (t : ℕ) → set-network-lts.Need-step6-requires (
@@ -145,7 +144,7 @@ set-network-step6-requires t c κs =
     let D₂ : Halved (a .o) (up (a .m)) (x .result) (y .result) (x .last .0) (x .last .1 .0) (x .last .1 .1 .0) (x .last .1 .1 .1 .1 .0) (x .last .1 .1 .1 .1 .1 .1 .1 .0) (y .last .0) (y .last .1 .0) (y .last .1 .1 .0) (y .last .1 .1 .1 .1 .0) (y .last .1 .1 .1 .1 .1 .1 .1 .0) = record { went = y .ensures .0; is = y .ensures .1; values-kept = y .kept .0; trails-kept = y .kept .1 .0; pairs-kept = y .kept .1 .1 .0; bits-kept = y .kept .1 .1 .1 .1 .0; log-kept = y .kept .1 .1 .1 .1 .1 .1 .1 .0 } in
     let z = c .before .before .before .before .before .before .before .before .before .before .before .before .before .before .set-network2 in
     let D₃ : Halved (a .o + up (a .m)) (a .m - up (a .m)) (y .result) (z .result) (y .last .0) (y .last .1 .0) (y .last .1 .1 .0) (y .last .1 .1 .1 .1 .0) (y .last .1 .1 .1 .1 .1 .1 .1 .0) (z .last .0) (z .last .1 .0) (z .last .1 .1 .0) (z .last .1 .1 .1 .1 .0) (z .last .1 .1 .1 .1 .1 .1 .1 .0) = record { went = z .ensures .0; is = z .ensures .1; values-kept = z .kept .0; trails-kept = z .kept .1 .0; pairs-kept = z .kept .1 .1 .0; bits-kept = z .kept .1 .1 .1 .1 .0; log-kept = z .kept .1 .1 .1 .1 .1 .1 .1 .0 } in
-    asks-six (a .o) (a .m) (a .w) (a .vals .now) (a .trails .now) (a .pairs .now) (a .bits .now) (a .log .now) two (p .0) (p .1) (p .2) D₁ D₂ D₃
+    asks-six (a .o) (a .m) (a .w) (a .vals .now) (a .trails .now) (a .pairs .now) (a .bits .now) (a .log .now) two (p .0) (p .1) (p .2) (p .3) D₁ D₂ D₃
 
 set-network-same-length : (t : ℕ) → set-network-lts.Need-same-length (
   enter-reads.Asked,
@@ -216,7 +215,7 @@ set-network-returns-2 t c =
     let z = c .before .before .before .before .before .before .before .before .before .before .before .before .before .before .before .before .before .before .before .before .before .before .before .set-network2 in
     let D₃ : Halved (a .o + up (a .m)) (a .m - up (a .m)) (y .result) (z .result) (y .last .0) (y .last .1 .0) (y .last .1 .1 .0) (y .last .1 .1 .1 .1 .0) (y .last .1 .1 .1 .1 .1 .1 .1 .0) (z .last .0) (z .last .1 .0) (z .last .1 .1 .0) (z .last .1 .1 .1 .1 .0) (z .last .1 .1 .1 .1 .1 .1 .1 .0) = record { went = z .ensures .0; is = z .ensures .1; values-kept = z .kept .0; trails-kept = z .kept .1 .0; pairs-kept = z .kept .1 .1 .0; bits-kept = z .kept .1 .1 .1 .1 .0; log-kept = z .kept .1 .1 .1 .1 .1 .1 .1 .0 } in
     let s = c .before .before .before .before .before .before .before .before .step6 in
-    (whole-log (a .o) (a .m) (a .w) (a .vals .now) (a .trails .now) (a .pairs .now) (a .bits .now) (a .log .now) two (p .0) (p .1) (p .2) D₁ D₂ D₃ (s .ensures .0) (λ ms. s .ensures .1 ms (a .w .b)), whole-state (a .o) (a .m) (a .w) (a .vals .now) (a .trails .now) (a .pairs .now) (a .bits .now) (a .log .now) two (p .0) (p .1) (p .2) D₁ D₂ D₃ (s .ensures .0) (λ ms. s .ensures .1 ms (a .w .b)))
+    (whole-log (a .o) (a .m) (a .w) (a .vals .now) (a .trails .now) (a .pairs .now) (a .bits .now) (a .log .now) two (p .0) (p .1) (p .2) (p .3) D₁ D₂ D₃ (s .ensures .0) (λ ms. s .ensures .1 ms (a .w .b)), whole-state (a .o) (a .m) (a .w) (a .vals .now) (a .trails .now) (a .pairs .now) (a .bits .now) (a .log .now) two (p .0) (p .1) (p .2) (p .3) D₁ D₂ D₃ (s .ensures .0) (λ ms. s .ensures .1 ms (a .w .b)))
 
 pub +set-network-spec : {M : Type 1} → statement M
 +set-network-spec = close μ-set-network λ t. set-network-lts.spec (

@@ -16,7 +16,8 @@ use Rattle.control_pairs.specs.Pairs.{marksIn}
 use Rattle.control_pairs.proofs.Held.{marks-cleared}
 use Rattle.control_walk.specs.Walks.{state, within}
 use Rattle.control_network.specs.Inner.{Tidy, unmarked}
-use Rattle.control_network.proofs.Bounds.{tidy-is, tidy-rounds}
+use Rattle.control_network.proofs.Bounds.{order-small, tidy-is, tidy-rounds}
+use Rattle.control_network.proofs.Trails.{ordered-within}
 use Rattle.control_network.proofs.Entries.{went-none, went-then, went-as, input-none, input-some, steps-none, steps-some, W-parts}
 use Rattle.control_network.proofs.input_steps.Statement.{statement}
 use Rattle.control_network.proofs.input_steps.Tie as tie
@@ -40,7 +41,9 @@ settle-inputs-requires c κs =
       R .pairs-room,
       omega (arith, R .bits-room, W-parts (a .args .m) (a .pre .0)),
       omega (arith, R .log-room, E-more (a .args .m) h),
-      a .pre .2,
+      ordered-within (a .args .o) (a .args .m) (a .args .w .b) (unmarked 512 (a .args .vals .now) (a .args .trails .now) (a .args .bits .now) (a .args .w)) (omega (arith, R .places)) (a .pre .3),
+      a .pre .2 .f-below,
+      a .pre .2 .c-below,
     )
 
 step4-requires : tie.Need-step4-requires
@@ -52,9 +55,10 @@ step4-requires c κs =
     let N = within (a .args .o) (a .args .m) (a .args .w .b) in
     let R = a .pre .1 in
     let s : State = unmarked k (a .args .vals .now) (a .args .trails .now) (a .args .bits .now) (a .args .w) in
-    let T : Tidy 32768 (state (a .args .vals .now) (a .args .trails .now) (marksIn k (x .last .1 .0) (replicate k 0)) (x .last .1 .1 .1 .0) (x .result)) =
-    tidy-is 32768 (sym (x .ensures .1 (a .args .trails .now) k (omega arith)))
-    (tidy-rounds N (omega (arith, R .places)) 32768 (omega arith) k s (a .pre .2))
+    let S = a .pre .3 in
+    let T : Tidy (state (a .args .vals .now) (a .args .trails .now) (marksIn k (x .last .1 .0) (replicate k 0)) (x .last .1 .1 .1 .0) (x .result)) =
+    tidy-is (sym (x .ensures .1 (a .args .trails .now) k (omega arith)))
+    (tidy-rounds N (omega (arith, R .places)) s (order-small N (S .order) (unmarked 512 (a .args .vals .now) (a .args .trails .now) (a .args .bits .now) (a .args .w)) (omega (arith, R .places)) (S .permutation) (S .holding)) (a .pre .2) k)
     in (
       a .pre .0,
       R .places,

@@ -41,18 +41,18 @@ rounds-requires c κs =
     let g = c .before .before .before .before .before .before .before .before .gather in
     let w = c .unmarked in
     let few : up m ≤ 512 = omega (arith, a .pre .1) in
-    let T = a .pre .6 in (
+    let G = gathered-as (λ i. a .args .o + i * 1) (λ i. a .args .o + i) m (a .args .vals .now) (g .last .0) (λ i l. omega arith) (g .ensures .0) in (
       a .pre .0,
       a .pre .1,
       omega (arith, a .pre .3, u .kept .0),
       omega (arith, a .pre .5, ap (λ (r : Walk). r .e) (w .ensures)),
-      small-gathered _ m (a .args .vals .now) (g .last .0) (T .values-below) (g .ensures .0),
+      small-gathered (a .args .o) m (a .args .vals .now) (g .last .0) (a .pre .6) G,
       g .ensures .1,
       record {
         numbered = unmarked-numbered (up m) (u .last .0) few (u .ensures);
         any-is = ap (λ (r : Walk). r .any) (w .ensures) ∙ sym (ap (λ (n : Bool). digit (not n)) (unmarked-none (up m) (u .last .0) few (u .ensures)));
-        f-below = omega (arith, T .f-below, ap (λ (r : Walk). r .f) (w .ensures));
-        c-below = omega (arith, T .c-below, ap (λ (r : Walk). r .c) (w .ensures));
+        f-below = omega (arith, a .pre .7, ap (λ (r : Walk). r .f) (w .ensures));
+        c-below = omega (arith, a .pre .8, ap (λ (r : Walk). r .c) (w .ensures));
       },
     )
 

@@ -2,13 +2,12 @@
 -- Assumes nothing.
 use native.Mathlib.Omega.{arith}
 use borrow.Author.Needs.{needs}
-use mathlib.Core.Path.{_≡_, sym, _∙_}
+use mathlib.Core.Path.{_≡_, sym, ap, _∙_}
 use Prim.Native.Nat.{ℕ}
-use lib.ListN.{length}
+use lib.ListN.{length, replicate, length-replicate}
 use Rattle.counts.specs.Counts.{W}
-use lib.ListN.{replicate}
 use Rattle.control_network.proofs.Bounds.{tidy-is}
-use Rattle.control_order.proofs.Start.{cleared, zeros-lengthen, tidy-start, start-is, sets-whole, room-start}
+use Rattle.control_order.proofs.Start.{cleared, zeros-lengthen, tidy-start, ordered-start, start-is, sets-whole, room-start}
 use Rattle.control_order.proofs.set_table.Statement.{statement}
 use Rattle.control_order.proofs.set_table.Tie as tie
 
@@ -27,7 +26,9 @@ set-network-requires c κs =
     let bs : b .last .0 ≡ replicate {A = ℕ} (W (length o)) 0 = b .ensures ∙ cleared (a .args .bits .now) (W (length o)) (a .pre .5) in (
       room-start o (v .last .0) (a .args .trails .now) (a .args .pairs .now) (b .last .0) (a .args .log .now) (a .pre .0) (v .kept .0 ∙ a .pre .2) (a .pre .3)
           (a .pre .4) (b .kept .0 ∙ a .pre .5) (omega (arith, b .kept .0, a .pre .6)) (a .pre .7),
-      tidy-is 1024 (sym (start-is o (v .last .0) (a .args .trails .now) (b .last .0) (v .ensures) (a .pre .3) bs)) (tidy-start o (a .pre .1)),
+      tidy-is (sym (start-is o (v .last .0) (a .args .trails .now) (b .last .0) (v .ensures) (a .pre .3) bs)) (tidy-start o),
+      ordered-start o (v .last .0) (a .args .trails .now) (b .last .0) (a .pre .0) (a .pre .1) (v .ensures) (ap length (a .pre .3) ∙ length-replicate {A = ℕ} (length o) 0)
+          (b .kept .0 ∙ a .pre .5),
       rw (a .pre .3) (zeros-lengthen (length o) (a .pre .0)),
     )
 

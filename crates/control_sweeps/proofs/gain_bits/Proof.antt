@@ -10,7 +10,7 @@ use Rattle.steps.specs.Steps.{digit}
 use Rattle.steps.specs.Sweeps.{each}
 use Rattle.network.specs.Wiring.{paper}
 use Rattle.control_numbers.proofs.Numbers.{digit-small, pairs}
-use Rattle.control_sweeps.proofs.Places.{each-step, ahead-below, at-place}
+use Rattle.control_sweeps.proofs.Places.{each-step, ahead-below, within-at}
 use Rattle.control_sweeps.proofs.gain_bits.Statement.{statement}
 use Rattle.control_sweeps.proofs.gain_bits.Tie as tie
 
@@ -51,7 +51,7 @@ shared-slice-read-at-least c = omega arith
 at-least-requires : tie.Need-at-least-requires Inv-loop μ-loop
 at-least-requires c κs =
     let a = c .before .before .before .before .before .before in
-    (at-place 32768 (a .args .vals .now) (a .args .o + c .before .before .before .loop .i) (a .pre .4), omega arith)
+    (within-at (a .args .o) (a .args .m) 32768 (a .args .vals .now) (c .before .before .before .loop .i) (a .pre .4) (omega arith), omega arith)
 
 add-trails : tie.Need-add-trails Inv-loop μ-loop
 add-trails c =

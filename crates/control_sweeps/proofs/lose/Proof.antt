@@ -6,7 +6,7 @@ use Prim.Native.Nat.{_+_, _-_, _≤_}
 use lib.ListN.{length, length-set}
 use Rattle.steps.specs.Sweeps.{each}
 use Rattle.network.specs.Wiring.{paper}
-use Rattle.control_sweeps.proofs.Places.{each-step, ahead-below, below-within}
+use Rattle.control_sweeps.proofs.Places.{each-step, ahead-below}
 use Rattle.control_sweeps.proofs.lose.Statement.{statement}
 use Rattle.control_sweeps.proofs.lose.Tie as tie
 
@@ -35,7 +35,7 @@ pair-of-requires c κs =
     let a = c .before .before .before .before in (
       a .pre .0,
       ahead-below (a .args .o) (a .args .m) 32768 (λ j v. paper .dec (a .args .k) v .0) (l .vals) (a .args .vals .now) (l .i)
-          (below-within (a .args .o) (a .args .m) 32768 (a .args .vals .now) (a .pre .2)) (l .inv .1) (omega arith),
+          (a .pre .2) (l .inv .1) (omega arith),
     )
 
 add-vals : tie.Need-add-vals Inv-loop μ-loop

@@ -7,7 +7,7 @@ use lib.Dec.{eqb}
 use lib.ListN.{length, getD, length-set}
 use Rattle.steps.specs.Sweeps.{each}
 use Rattle.network.specs.Wiring.{paper}
-use Rattle.control_sweeps.proofs.Places.{each-step, ahead-below, below-within, regained}
+use Rattle.control_sweeps.proofs.Places.{each-step, ahead-below, regained}
 use Rattle.control_sweeps.proofs.regain.Statement.{statement}
 use Rattle.control_sweeps.proofs.regain.Tie as tie
 
@@ -48,8 +48,7 @@ add-vals c =
     let a = c .before .before .before .before .before .before .before in
     let t = getD (a .args .trails .now) (a .args .o + l .i) 0 in
     let q = regained (a .args .k) (getD (l .vals) (a .args .o + l .i) 0) t (c .mask .result) (c .mask .ensures) (omega arith) in
-    let w = below-within (a .args .o) (a .args .m) 32768 (a .args .vals .now) (a .pre .3) in
-    omega (arith, q .0, ahead-below (a .args .o) (a .args .m) 32768 (λ j v. paper .enc (a .args .k) (v, eqb (getD (a .args .trails .now) (a .args .o + j) 0 % 2) 1)) (l .vals) (a .args .vals .now) (l .i) w (l .inv .1) (omega arith))
+    omega (arith, q .0, ahead-below (a .args .o) (a .args .m) 32768 (λ j v. paper .enc (a .args .k) (v, eqb (getD (a .args .trails .now) (a .args .o + j) 0 % 2) 1)) (l .vals) (a .args .vals .now) (l .i) (a .pre .3) (l .inv .1) (omega arith))
 
 add-vals-2 : tie.Need-add-vals-2 Inv-loop μ-loop
 add-vals-2 c = omega arith

@@ -1,4 +1,4 @@
--- The order, whose entries are below 1,024, and then the setter.
+-- The order, which is one, and then the setter.
 -- Assumes nothing.
 use mathlib.Core.Path.{_≡_, sym, ap, _∙_}
 use native.Mathlib.Omega.{arith}
@@ -6,7 +6,7 @@ use lib.ListN.{length}
 use borrow.Author.Needs.{needs}
 use Rattle.counts.specs.Counts.{W}
 use Rattle.ranks_order.specs.Ranks.{orderAt}
-use Rattle.ranks_order.proofs.OrderAt.{length-orderAt, order-below}
+use Rattle.ranks_order.proofs.OrderAt.{length-orderAt, order-permutation}
 use Rattle.ranks.proofs.set_ranked.Statement.{statement}
 use Rattle.ranks.proofs.set_ranked.Tie as tie
 
@@ -21,7 +21,7 @@ set-order-requires c κs =
     let e : w .last .1 .0 ≡ orderAt n (a .args .r) = w .ensures in
     let l : length (w .last .1 .0) ≡ n = ap length e ∙ length-orderAt n (a .args .r) in (
       omega (arith, l, a .pre .0),
-      rw e (order-below n (a .args .r) 1024 (a .pre .1) (omega (arith, a .pre .0)) (omega arith)),
+      rw (l, e) (order-permutation n (a .args .r) (a .pre .1)),
       a .pre .2 ∙ ap W (sym l),
       a .pre .3,
       rw l (a .pre .4),

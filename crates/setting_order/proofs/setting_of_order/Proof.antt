@@ -6,7 +6,7 @@ use lib.ListN.{length, length-replicate}
 use borrow.Author.Needs.{needs}
 use Rattle.network.specs.Log.{entryWords}
 use Rattle.counts.proofs.Most.{switches-few, entries-few}
-use Rattle.control_order.proofs.Passed.{below-passed}
+use Rattle.permutation.proofs.Permutations.{passes-permutation}
 use Rattle.setting_order.proofs.setting_of_order.Statement.{statement}
 use Rattle.setting_order.proofs.setting_of_order.Tie as tie
 
@@ -18,7 +18,7 @@ set-order-requires c κs =
     let s = c .before .before .before .before in
     let n = length (s .args .order .now) in (
       s .pre .0,
-      below-passed (s .args .order .now) (s .pre .0) (s .pre .1),
+      passes-permutation (s .args .order .now) (s .pre .1),
       s .pre .2,
       omega (arith, s .pre .2, switches-few n (s .pre .0)),
       omega (arith, entries-few n (s .pre .0), length-replicate {A = ℕ} (entryWords * 16381) 0),
