@@ -27,16 +27,16 @@ pub fn run_back(
         return e;
     }
     if m == 2 {
-        apply_layers::layer_back(blocks, width, m, 1, o, bits, log, e);
+        apply_widths::layer_back(blocks, width, m, 1, o, bits, log, e);
         return e + 1;
     }
     let k = (m + 1) / 2;
     let h = m - k;
     let cut = k * width;
-    apply_layers::layer_back(blocks, width, m, h, o, bits, log, e);
+    apply_widths::layer_back(blocks, width, m, h, o, bits, log, e);
     let bottom = run_back(&mut blocks[cut..], width, h, o + k, bits, log, e + h);
     let top = run_back(&mut blocks[..cut], width, k, o, bits, log, bottom);
     let inputs = k - 1;
-    apply_layers::layer_back(blocks, width, m, inputs, o, bits, log, top);
+    apply_widths::layer_back(blocks, width, m, inputs, o, bits, log, top);
     top + inputs
 }

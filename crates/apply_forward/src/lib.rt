@@ -27,16 +27,16 @@ pub fn run(
         return e;
     }
     if m == 2 {
-        apply_layers::layer(blocks, width, m, 1, o, bits, log, e);
+        apply_widths::layer(blocks, width, m, 1, o, bits, log, e);
         return e + 1;
     }
     let k = (m + 1) / 2; // the places of the top network
     let h = m - k;
     let cut = k * width;
     let inputs = k - 1;
-    apply_layers::layer(blocks, width, m, inputs, o, bits, log, e);
+    apply_widths::layer(blocks, width, m, inputs, o, bits, log, e);
     let top = run(&mut blocks[..cut], width, k, o, bits, log, e + inputs);
     let bottom = run(&mut blocks[cut..], width, h, o + k, bits, log, top);
-    apply_layers::layer(blocks, width, m, h, o, bits, log, bottom);
+    apply_widths::layer(blocks, width, m, h, o, bits, log, bottom);
     bottom + h
 }

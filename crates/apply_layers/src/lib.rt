@@ -1,5 +1,6 @@
 // A layer of switches on lent blocks, first to last and last to first, each switch with its log entry. The bits and the bytes of
-// the blocks are secret: no branch and no index depends on them.
+// the blocks are secret: no branch and no index depends on them. Public for the crate `apply_widths` only, whose callers have
+// asked their questions before: so a layer `requires` what they have settled.
 ghost use mathlib.Core.Path.{_≡_};
 ghost use mathlib.Core.List.{reverse};
 ghost use Prim.Native.Nat.{_+_, _≤_, _%_};
@@ -8,7 +9,7 @@ ghost use Rattle.apply_layers.specs.Ran.{Lent, Ran, bitAt, bitBack, laye
 
 // The first c switches of a layer of the network of m places from o, first to last: switch i on the places i and k + i,
 // under bit e + i, logged as entry e + i. Of each block `whole` bytes go in parts of 32, and the `rest` behind them.
-fn in_parts(
+pub fn in_parts(
     blocks: &mut [u8],
     width: usize,
     whole: usize,
@@ -39,7 +40,7 @@ fn in_parts(
 }
 
 // The same switches, last to first, as the return does them: entry e has the bit that is as far from the last as e is from 0.
-fn in_parts_back(
+pub fn in_parts_back(
     blocks: &mut [u8],
     width: usize,
     whole: usize,
@@ -69,75 +70,5 @@ fn in_parts_back(
         apply_exchange::exchange_rest(blocks, rest, a + whole, gap, s);
         entry_log::write_entry(log, to, 7, o + i, o + (k + i));
         to += 1;
-    }
-}
-
-// The layer first to last. The commonest widths are told apart only so that the loop is compiled anew for each of them, and
-// widths of whole parts so that it has no rest. Public for the crate `apply_forward` only, whose callers have asked their
-// questions before: so it `requires` what they have settled.
-pub fn layer(
-    blocks: &mut [u8],
-    width: usize,
-    m: usize,
-    c: usize,
-    o: usize,
-    bits: &[u8],
-    log: &mut [u16],
-    e: usize,
-)
-    requires { ⌜ Lent width m o c e (now blocks) (now bits) (now log) × (c ≤ down m) ⌝ }
-    ensures { λ _. ⌜ Ran width m (bitAt (now (bits .entry))) (layerOf m c) o e (now (blocks .entry)) (now (log .entry))
-        (now (blocks .exit)) (now (log .exit)) ⌝ }
-{
-    match width {
-        1 => in_parts(blocks, width, 0, 1, m, c, o, bits, log, e),
-        6 => in_parts(blocks, width, 0, 6, m, c, o, bits, log, e),
-        8 => in_parts(blocks, width, 0, 8, m, c, o, bits, log, e),
-        16 => in_parts(blocks, width, 0, 16, m, c, o, bits, log, e),
-        32 => in_parts(blocks, width, 32, 0, m, c, o, bits, log, e),
-        64 => in_parts(blocks, width, 64, 0, m, c, o, bits, log, e),
-        256 => in_parts(blocks, width, 256, 0, m, c, o, bits, log, e),
-        _ => {
-            if width % 32 == 0 {
-                in_parts(blocks, width, width, 0, m, c, o, bits, log, e);
-            } else {
-                let whole = width / 32 * 32;
-                in_parts(blocks, width, whole, width % 32, m, c, o, bits, log, e);
-            }
-        }
-    }
-}
-
-// The layer last to first. Public for the crate `apply_backward` only; it `requires` what `layer` does, for the same reason.
-pub fn layer_back(
-    blocks: &mut [u8],
-    width: usize,
-    m: usize,
-    c: usize,
-    o: usize,
-    bits: &[u8],
-    log: &mut [u16],
-    e: usize,
-)
-    requires { ⌜ Lent width m o c e (now blocks) (now bits) (now log) × (c ≤ down m) ⌝ }
-    ensures { λ _. ⌜ Ran width m (bitBack (now (bits .entry))) (reverse (layerOf m c)) o e (now (blocks .entry))
-        (now (log .entry)) (now (blocks .exit)) (now (log .exit)) ⌝ }
-{
-    match width {
-        1 => in_parts_back(blocks, width, 0, 1, m, c, o, bits, log, e),
-        6 => in_parts_back(blocks, width, 0, 6, m, c, o, bits, log, e),
-        8 => in_parts_back(blocks, width, 0, 8, m, c, o, bits, log, e),
-        16 => in_parts_back(blocks, width, 0, 16, m, c, o, bits, log, e),
-        32 => in_parts_back(blocks, width, 32, 0, m, c, o, bits, log, e),
-        64 => in_parts_back(blocks, width, 64, 0, m, c, o, bits, log, e),
-        256 => in_parts_back(blocks, width, 256, 0, m, c, o, bits, log, e),
-        _ => {
-            if width % 32 == 0 {
-                in_parts_back(blocks, width, width, 0, m, c, o, bits, log, e);
-            } else {
-                let whole = width / 32 * 32;
-                in_parts_back(blocks, width, whole, width % 32, m, c, o, bits, log, e);
-            }
-        }
     }
 }

@@ -19,7 +19,7 @@ use borrow.Fn.PlainCycle.{Measures, is, falls, and}
 use Rattle.apply_backward.proofs.run_back.Reads as run-back
 use Rattle.apply_backward.proofs.run_back.Kinds as run-back-kinds
 use Rattle.apply_backward.proofs.+run_back.Lts-run_back as run-back-lts
-use Rattle.apply_layers.proofs.layer_back.Reads as layer-back-reads
+use Rattle.apply_widths.proofs.layer_back.Reads as layer-back-reads
 use Rattle.apply_backward.proofs.+run_back.{statement}
 use Rattle.apply_backward.proofs.+run_back.Tie.{close}
 

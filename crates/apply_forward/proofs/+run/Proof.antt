@@ -19,7 +19,7 @@ use borrow.Fn.PlainCycle.{Measures, is, falls, and}
 use Rattle.apply_forward.proofs.run.Reads as run
 use Rattle.apply_forward.proofs.run.Kinds as run-kinds
 use Rattle.apply_forward.proofs.+run.Lts-run as run-lts
-use Rattle.apply_layers.proofs.layer.Reads as layer-reads
+use Rattle.apply_widths.proofs.layer.Reads as layer-reads
 use Rattle.apply_forward.proofs.+run.{statement}
 use Rattle.apply_forward.proofs.+run.Tie.{close}
 

@@ -1,0 +1,87 @@
+// A layer of switches, in a form that is made for the blocks' width. The bits and the bytes of the blocks are secret: no branch and no
+// index depends on them.
+ghost use mathlib.Core.List.{reverse};
+ghost use Prim.Native.Nat.{_≤_};
+ghost use Rattle.network.specs.Network.{down};
+ghost use Rattle.apply_layers.specs.Ran.{Lent, Ran, bitAt, bitBack, layerOf};
+
+// The layer first to last. The commonest widths are told apart only so that the loop is compiled anew for each of them, and
+// widths of whole parts so that it has no rest. Public for the crate `apply_forward` only, whose callers have asked their
+// questions before: so it `requires` what they have settled.
+pub fn layer(
+    blocks: &mut [u8],
+    width: usize,
+    m: usize,
+    c: usize,
+    o: usize,
+    bits: &[u8],
+    log: &mut [u16],
+    e: usize,
+)
+    requires { ⌜ Lent width m o c e (now blocks) (now bits) (now log) × (c ≤ down m) ⌝ }
+    ensures { λ _. ⌜ Ran width m (bitAt (now (bits .entry))) (layerOf m c) o e (now (blocks .entry)) (now (log .entry))
+        (now (blocks .exit)) (now (log .exit)) ⌝ }
+{
+    match width {
+        1 => apply_layers::in_parts(blocks, width, 0, 1, m, c, o, bits, log, e),
+        6 => apply_layers::in_parts(blocks, width, 0, 6, m, c, o, bits, log, e),
+        8 => apply_layers::in_parts(blocks, width, 0, 8, m, c, o, bits, log, e),
+        16 => apply_layers::in_parts(blocks, width, 0, 16, m, c, o, bits, log, e),
+        32 => apply_layers::in_parts(blocks, width, 32, 0, m, c, o, bits, log, e),
+        64 => apply_layers::in_parts(blocks, width, 64, 0, m, c, o, bits, log, e),
+        256 => apply_layers::in_parts(blocks, width, 256, 0, m, c, o, bits, log, e),
+        _ => {
+            if width % 32 == 0 {
+                apply_layers::in_parts(blocks, width, width, 0, m, c, o, bits, log, e);
+            } else {
+                let whole = width / 32 * 32;
+                apply_layers::in_parts(blocks, width, whole, width % 32, m, c, o, bits, log, e);
+            }
+        }
+    }
+}
+
+// The layer last to first. Public for the crate `apply_backward` only; it `requires` what `layer` does, for the same reason.
+pub fn layer_back(
+    blocks: &mut [u8],
+    width: usize,
+    m: usize,
+    c: usize,
+    o: usize,
+    bits: &[u8],
+    log: &mut [u16],
+    e: usize,
+)
+    requires { ⌜ Lent width m o c e (now blocks) (now bits) (now log) × (c ≤ down m) ⌝ }
+    ensures { λ _. ⌜ Ran width m (bitBack (now (bits .entry))) (reverse (layerOf m c)) o e (now (blocks .entry))
+        (now (log .entry)) (now (blocks .exit)) (now (log .exit)) ⌝ }
+{
+    match width {
+        1 => apply_layers::in_parts_back(blocks, width, 0, 1, m, c, o, bits, log, e),
+        6 => apply_layers::in_parts_back(blocks, width, 0, 6, m, c, o, bits, log, e),
+        8 => apply_layers::in_parts_back(blocks, width, 0, 8, m, c, o, bits, log, e),
+        16 => apply_layers::in_parts_back(blocks, width, 0, 16, m, c, o, bits, log, e),
+        32 => apply_layers::in_parts_back(blocks, width, 32, 0, m, c, o, bits, log, e),
+        64 => apply_layers::in_parts_back(blocks, width, 64, 0, m, c, o, bits, log, e),
+        256 => apply_layers::in_parts_back(blocks, width, 256, 0, m, c, o, bits, log, e),
+        _ => {
+            if width % 32 == 0 {
+                apply_layers::in_parts_back(blocks, width, width, 0, m, c, o, bits, log, e);
+            } else {
+                let whole = width / 32 * 32;
+                apply_layers::in_parts_back(
+                    blocks,
+                    width,
+                    whole,
+                    width % 32,
+                    m,
+                    c,
+                    o,
+                    bits,
+                    log,
+                    e,
+                );
+            }
+        }
+    }
+}
