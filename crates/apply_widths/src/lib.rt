@@ -34,8 +34,9 @@ pub fn layer(
             if width % 32 == 0 {
                 apply_layers::in_parts(blocks, width, width, 0, m, c, o, bits, log, e);
             } else {
+                let rest = width % 32;
                 let whole = width / 32 * 32;
-                apply_layers::in_parts(blocks, width, whole, width % 32, m, c, o, bits, log, e);
+                apply_layers::in_parts(blocks, width, whole, rest, m, c, o, bits, log, e);
             }
         }
     }
@@ -68,19 +69,9 @@ pub fn layer_back(
             if width % 32 == 0 {
                 apply_layers::in_parts_back(blocks, width, width, 0, m, c, o, bits, log, e);
             } else {
+                let rest = width % 32;
                 let whole = width / 32 * 32;
-                apply_layers::in_parts_back(
-                    blocks,
-                    width,
-                    whole,
-                    width % 32,
-                    m,
-                    c,
-                    o,
-                    bits,
-                    log,
-                    e,
-                );
+                apply_layers::in_parts_back(blocks, width, whole, rest, m, c, o, bits, log, e);
             }
         }
     }
