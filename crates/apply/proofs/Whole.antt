@@ -1,8 +1,8 @@
 -- From the run of the whole network to what a call comes to.
 -- Assumes nothing.
-use mathlib.Core.Path.{_≡_, sym, ap, _∙_}
-use mathlib.Core.List.{List, []}
-use Prim.Native.Nat.{ℕ, _+_, _-_, _*_}
+use mathlib.Core.Path.{_≡_, sym, ap, _∙_, fun-ext}
+use mathlib.Core.List.{List, [], reverse}
+use Prim.Native.Nat.{ℕ, _+_, _-_, _*_, _≤_}
 use native.Mathlib.Nat.{zero-add}
 use native.Mathlib.Omega.{arith}
 use lib.ListN.{length, getD}
@@ -18,13 +18,16 @@ use Rattle.network.specs.Wiring.{paper}
 use Rattle.network.specs.Network.{network}
 use Rattle.network.specs.Move.{forward, backward}
 use Rattle.network.specs.Blocks.{cut, bytesOf, moved, movedBack}
-use Rattle.network.specs.Log.{Entry, words, applyEntries, inverseEntries, runFrom, runApply, runInverse}
+use Rattle.network.specs.Log.{Entry, words, switches, applyEntries, inverseEntries, runFrom, runApply, runInverse}
 use Rattle.network.proofs.Paper.{paper-lawful}
 use Rattle.network.proofs.Blocks.{length-cut, bytes-cut}
 use Rattle.network.proofs.Run.{run-apply}
 use Rattle.network.proofs.RunBack.{run-inverse}
 use Rattle.network.proofs.Shift.{shifted-none}
-use Rattle.apply_layers.specs.Ran.{Lent, Ran, bitAt, bitBack}
+use Rattle.wirings.specs.declared.Topology.the-variants.{Paper}
+use Rattle.wirings.specs.Nets.{wiringOf, wholeOf, Inside}
+use Rattle.apply_layers.specs.Ran.{blocksIn, Lent, Ran, bitAt, bitBack, switchesOf}
+use Rattle.apply_layers.proofs.Runs.{many}
 use Rattle.apply_questions.specs.Questions.{applyQuestions}
 use Rattle.apply.specs.Calls.{applyCall, inverseCall}
 use Rattle.apply_questions.proofs.Asked.{Fits, passes, asked-well}
@@ -35,12 +38,20 @@ turned-away : (v : Verdict) (count : ℕ) (words b entries l : List ℕ) {a : An
 turned-away allYes count words b entries l e h = absurd (h (ap (λ a. a .number) e))
 turned-away (noAt q p) count words b entries l e h = rw e
 
+-- the switches of the whole are all entries
+all-switches : (n : ℕ) → switchesOf (wholeOf Paper n) ≡ applyEntries paper n
+unfolding wiringOf applyEntries
+all-switches n = ap (switches paper (network n)) (fun-ext (λ i. let e : i * 1 ≡ i = omega arith in e))
+
 -- every question got a yes, and all entries of n places were run: what they leave is `after`
-settles : (n width : ℕ) {b l b′ l′ : List ℕ} {bit : ℕ → ℕ} {es : List Entry} {count : ℕ} {a : Answer} (v : Verdict) (after : List (List ℕ)) → v ≡ allYes
-    → a ≡ accepted count → count ≡ W n → length b ≡ n * width → length b′ ≡ length b → runFrom [] bit 0 es (cut width n b) ≡ after
-    → Ran width n bit es 0 0 b l b′ l′ → logged a b′ l′ ≡ settledLogged v (W n) (bytesOf after) b (words es) l
-settles n width {b} {l} {b′} {l′} {bit} {es} v after asked told all filled kept is ran =
-    let bytes : bytesOf after ≡ b′ = ap bytesOf (sym (ran .blocks ∙ is)) ∙ bytes-cut width n b′ (kept ∙ filled) in
+settles : (n width : ℕ) {b l b′ l′ : List ℕ} {bit : ℕ → ℕ} {es : List Entry} {count : ℕ} {a : Answer} (v : Verdict)
+    (after : List (List ℕ)) → v ≡ allYes
+    → a ≡ accepted count → count ≡ W n → 1 ≤ width → length b ≡ n * width → length b′ ≡ length b → runFrom [] bit 0 es (cut width n b) ≡
+    after
+    → Ran width bit es 0 0 b l b′ l′ → logged a b′ l′ ≡ settledLogged v (W n) (bytesOf after) b (words es) l
+settles n width {b} {l} {b′} {l′} {bit} {es} v after asked told all low filled kept is ran =
+    let left : cut width n b′ ≡ runFrom [] bit 0 es (cut width n b) = rw (many n width b low filled) at (ran .blocks) in
+    let bytes : bytesOf after ≡ b′ = ap bytesOf (sym (left ∙ is)) ∙ bytes-cut width n b′ (kept ∙ filled) in
     logged-accepted v (W n) (bytesOf after) b (words es) l
     asked (told ∙ ap accepted all)
     (sym bytes ∙ sym (overlay-whole b (bytesOf after) (ap length bytes ∙ kept)))
@@ -66,22 +77,39 @@ module _ (n width : ℕ) (b bits l : List ℕ) where
       fits : Fits n width (length b) bits (length l)
       fits = passes n width (length b) bits (length l) well
 
-      pub lent : Lent width n 0 (W n) 0 b bits l
+      pub lent : Lent width 0 (W n) 0 b bits l × Inside (0 + blocksIn width b) (wholeOf Paper n)
       lent =
           let f = fits in
-          record { places = omega arith; wide = f .low; narrow = f .high; whole = sym (f .whole); enough = omega arith; room = omega arith; settings = f .settings }
+          let all = many n width b (f .low) (f .whole) in (
+            record {
+              places = rw all (omega arith);
+              wide = f .low;
+              narrow = f .high;
+              whole = rw all (sym (f .whole));
+              enough = omega arith;
+              room = omega arith;
+              settings = f .settings;
+            },
+            rw all (record { apart = omega arith; lies = λ i h. omega arith }),
+          )
 
-      module _ {b′ l′ : List ℕ} {count : ℕ} {a : Answer} (reports : a ≡ accepted count) (counted : count ≡ 0 + W n) (kept : length b′ ≡ length b) where
-        pub apply-settles : Ran width n (bitAt bits) (applyEntries paper n) 0 0 b l b′ l′ → logged a b′ l′ ≡ applyCall n width b bits l
+      module _ {b′ l′ : List ℕ} {count : ℕ} {a : Answer} (reports : a ≡ accepted count) (counted : count ≡ 0 + W n)
+          (kept : length b′ ≡ length b) where
+        pub apply-settles : Ran width (bitAt bits) (switchesOf (wholeOf Paper n)) 0 0 b l b′ l′ → logged a b′ l′ ≡ applyCall n width b
+            bits l
         unfolding applyCall moved runApply
         apply-settles ran =
-            settles n width verdict (forward [] paper (network n) bits (cut width n b)) well reports (counted ∙ zero-add (W n)) (fits .whole) kept
-            (run-apply [] paper-lawful n bits (cut width n b) (length-cut width n b)) ran
+            let f = fits in
+            settles n width verdict (forward [] paper (network n) bits (cut width n b)) well reports (counted ∙ zero-add (W n)) (f .low)
+            (f .whole) kept
+            (run-apply [] paper-lawful n bits (cut width n b) (length-cut width n b)) (rw (all-switches n) at ran)
 
-        pub inverse-settles : Ran width n (bitBack bits) (inverseEntries paper n) 0 0 b l b′ l′ → logged a b′ l′ ≡ inverseCall n width b bits l
-        unfolding inverseCall movedBack runInverse
+        pub inverse-settles : Ran width (bitBack bits) (reverse (switchesOf (wholeOf Paper n))) 0 0 b l b′ l′ → logged a b′ l′ ≡
+            inverseCall n width b bits l
+        unfolding inverseCall movedBack runInverse inverseEntries
         inverse-settles ran =
             let f = fits in
-            settles n width verdict (backward [] paper (network n) bits (cut width n b)) well reports (counted ∙ zero-add (W n)) (f .whole) kept
+            settles n width verdict (backward [] paper (network n) bits (cut width n b)) well reports (counted ∙ zero-add (W n)) (f .low)
+            (f .whole) kept
             (ap (λ c. runFrom [] (λ e. getD bits (c - 1 - e) 0) 0 (inverseEntries paper n) (cut width n b)) (f .count)
-            ∙ run-inverse [] paper-lawful n bits (cut width n b) (length-cut width n b)) ran
+            ∙ run-inverse [] paper-lawful n bits (cut width n b) (length-cut width n b)) (rw (all-switches n) at ran)

@@ -20,7 +20,17 @@ pub fn apply(
     if asked.number != 0 { // nothing is written
         return asked;
     }
-    answers::accept(apply_forward::run(blocks, width, n, 0, bits, log, 0))
+    answers::accept(apply_forward::run(
+        blocks,
+        width,
+        wirings::Topology::Paper,
+        n,
+        0,
+        1,
+        bits,
+        log,
+        0,
+    ))
 }
 
 // 01: return.
@@ -38,5 +48,15 @@ pub fn apply_inverse(
     if asked.number != 0 {
         return asked;
     }
-    answers::accept(apply_backward::run_back(blocks, width, n, 0, bits, log, 0))
+    answers::accept(apply_backward::run_back(
+        blocks,
+        width,
+        wirings::Topology::Paper,
+        n,
+        0,
+        1,
+        bits,
+        log,
+        0,
+    ))
 }

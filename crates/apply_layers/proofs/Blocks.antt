@@ -4,20 +4,19 @@ use mathlib.Core.Path.{_≡_, refl, sym, ap, _∙_}
 use mathlib.Core.Bool.{Bool, true, false}
 use mathlib.Core.List.{List, [], _∷_, _++_, append-assoc}
 use Prim.Native.Nat.{ℕ, zero, suc, _+_, _-_, _*_, _≤_, _<_}
-use native.Mathlib.Nat.{suc-mul, add-mul, one-mul, mul-le-mul-right}
+use native.Mathlib.Nat.{suc-mul, add-mul, one-mul, mul-assoc, mul-le-mul-right}
 use native.Mathlib.Omega.{arith}
 use lib.Dec.{eqb}
 use lib.ListN.{length, take, drop, getD, length-append, length-drop, take-append-drop}
 use lib.Seq.{take-suc, take-all, length-take-le, take-at, drop-at}
 use borrow.Author.Tests.{eqb-true}
-use Rattle.counts.specs.Counts.{up}
-use Rattle.network.specs.Network.{down}
 use Rattle.network.specs.Move.{switch}
 use Rattle.network.specs.Blocks.{cut}
 use Rattle.apply_words.specs.Bytes.{bytesSwitched}
 use Rattle.apply_exchange.proofs.Parts.{behind-bytes}
 use Rattle.network.proofs.Blocks.{length-cut, cut-append, block-ends}
 use Rattle.network.proofs.Kept.{swap-two, switch-left}
+use Rattle.apply_layers.specs.Ran.{blocksIn, Lent, Pairs}
 
 nil : {A : Type 0} (x : List A) → length x ≡ 0 → x ≡ []
 nil [] e = refl
@@ -79,29 +78,29 @@ parts w p g r a x m y z ea ex em ey =
 -- a switch on whole blocks, where the bytes are so many parts
 parted : (w p g r : ℕ) (a x m y z : List ℕ) → length a ≡ p * w → length x ≡ w → length m ≡ g * w → length y ≡ w
     → cut w (p + suc (g + suc r)) (bytesSwitched (p * w) (suc g * w) 1 w (a ++ (x ++ (m ++ (y ++ z)))))
-    ≡ switch [] p (suc g + p) 1 (cut w (p + suc (g + suc r)) (a ++ (x ++ (m ++ (y ++ z)))))
+    ≡ switch [] p (p + suc g) 1 (cut w (p + suc (g + suc r)) (a ++ (x ++ (m ++ (y ++ z)))))
 parted w p g r a x m y z ea ex em ey =
     let gap : w + length m ≡ suc g * w = omega (arith, suc-mul g w) in
     let e = cut w p a in
     let n = cut w g m in
     let lower : p ≡ length e = sym (length-cut w p a) in
-    let upper : suc g + p ≡ length (e ++ (x ∷ n)) = sym (rw (length-append, length-cut, length-cut) (omega arith)) in
+    let upper : p + suc g ≡ length (e ++ (x ∷ n)) = sym (rw (length-append, length-cut, length-cut) (omega arith)) in
     ap (cut w (p + suc (g + suc r))) (exchanged w a x m y z (p * w) (suc g * w) ex ey ea gap)
     ∙ parts w p g r a y m x z ea ey em ex
-    ∙ sym (ap (switch [] p (suc g + p) 1) (parts w p g r a x m y z ea ex em ey)
+    ∙ sym (ap (switch [] p (p + suc g) 1) (parts w p g r a x m y z ea ex em ey)
     ∙ ap (λ i. switch [] p i 1 (e ++ (x ∷ (n ++ (y ∷ cut w r z))))) upper
     ∙ ap (λ i. switch [] i (length (e ++ (x ∷ n))) 1 (e ++ (x ∷ (n ++ (y ∷ cut w r z))))) lower ∙ swap-two [] e n (cut w r z) x y)
 
--- a switch on the bytes of the blocks at p and k places further on is a switch on the blocks
-pub cut-switched : (w m k p bit : ℕ) (bytes : List ℕ) → 0 < k → k + p < m → m * w ≡ length bytes
-    → cut w m (bytesSwitched (p * w) (k * w) bit w bytes) ≡ switch [] p (k + p) bit (cut w m bytes)
+-- a switch on the bytes of the blocks at p and a gap of k places further is a switch on the blocks
+pub cut-switched : (w m k p bit : ℕ) (bytes : List ℕ) → 1 ≤ k → p + k < m → m * w ≡ length bytes
+    → cut w m (bytesSwitched (p * w) (k * w) bit w bytes) ≡ switch [] p (p + k) bit (cut w m bytes)
 cut-switched w m k p bit bytes h l e = go (eqb bit 1) refl
   where
     g : ℕ
     g = k - 1
 
     r : ℕ
-    r = m - suc (k + p)
+    r = m - suc (p + k)
 
     a : List ℕ
     a = take (p * w) bytes
@@ -109,8 +108,8 @@ cut-switched w m k p bit bytes h l e = go (eqb bit 1) refl
     b : List ℕ
     b = drop (p * w) bytes
 
-    go : (t : Bool) → eqb bit 1 ≡ t → cut w m (bytesSwitched (p * w) (k * w) bit w bytes) ≡ switch [] p (k + p) bit (cut w m bytes)
-    go false t = ap (cut w m) (kept (p * w) (k * w) bit w bytes t) ∙ sym (switch-left [] p (k + p) bit (cut w m bytes) t)
+    go : (t : Bool) → eqb bit 1 ≡ t → cut w m (bytesSwitched (p * w) (k * w) bit w bytes) ≡ switch [] p (p + k) bit (cut w m bytes)
+    go false t = ap (cut w m) (kept (p * w) (k * w) bit w bytes t) ∙ sym (switch-left [] p (p + k) bit (cut w m bytes) t)
     go true t =
         let one : bit ≡ 1 = eqb-true bit 1 t in
         let before : suc g ≡ k = omega arith in
@@ -132,19 +131,26 @@ cut-switched w m k p bit bytes h l e = go (eqb bit 1) refl
         (parted w p g r a x n y z (length-take-le (p * w) bytes (omega arith)) (length-take-le w b (omega arith))
         (length-take-le (g * w) b1 (omega arith)) (length-take-le w b2 (omega arith)))
 
--- ---- where block i of a layer lies, and its partner
+-- ---- where the blocks of a switch of a layer lie: of the place p, from byte a on, and of the one a gap further
 
-pub half-fits : (w m : ℕ) → up m * w ≤ m * w
-half-fits w m = mul-le-mul-right w (omega arith)
+pub record Within (w o p a gap long : ℕ) : Type 0 where
+  pub place : o + (p + gap) < 1024
+  pub apart : w ≤ gap * w
+  pub ends : a + gap * w + w ≤ long
 
-pub record Within (w m i long : ℕ) : Type 0 where
-  pub gap : w ≤ up m * w
-  pub ends : i * w + up m * w + w ≤ long
+module _ {w o c e step gap : ℕ} {b bits l : List ℕ} (lent : Lent w o c e b bits l) (pairs : Pairs (blocksIn w b) step gap c) where
+  pub within : (i : ℕ) → i < c → Within w o (i * step) (i * (step * w)) gap (length b)
+  within i h =
+      let one : 1 * w ≤ gap * w = mul-le-mul-right w (pairs .apart) in
+      let last = block-ends w (blocksIn w b) (i * step + gap) (pairs .lies i h) in
+      record {
+        place = omega (arith, pairs .lies i h, lent .places);
+        apart = omega (arith, one-mul w);
+        ends = omega (arith, last, lent .whole, add-mul (i * step) gap w, mul-assoc i step w);
+      }
 
-pub within : (w m i long : ℕ) → i < down m → m * w ≡ long → Within w m i long
-within w m i long h e =
-    let one : 1 * w ≤ up m * w = mul-le-mul-right w (omega arith) in
-    record { gap = omega (arith, one-mul w); ends = omega (arith, block-ends w m (up m + i) (omega arith), add-mul (up m) i w) }
+  pub few-fit : (n : ℕ) → n ≤ blocksIn w b → n * w ≤ length b
+  few-fit n h = let x : n * w ≤ blocksIn w b * w = mul-le-mul-right w h in omega (arith, lent .whole)
 
 -- the parts of a block, one behind the other, are the block
 pub both-parts : (w whole rest a gap s : ℕ) (b1 b2 b3 : List ℕ) → w ≡ whole + rest → b2 ≡ bytesSwitched a gap s whole b1

@@ -1,33 +1,39 @@
 -- What a function that runs some switches on lent blocks, and logs them, asks for and leaves behind.
 -- Assumes nothing: these are definitions.
 use mathlib.Core.Path.{_≡_}
+use mathlib.Core.Bool.{cond}
 use mathlib.Core.List.{List, []}
-use Prim.Native.Nat.{ℕ, _+_, _-_, _*_, _≤_}
+use Prim.Native.Nat.{ℕ, _+_, _-_, _*_, _/_, _≤_, _<_}
 use lib.ListN.{length, getD}
 use Rattle.answers.specs.Buffers.{overlay}
 use Rattle.bits.specs.Bits.{Bits}
-use Rattle.counts.specs.Counts.{up}
-use Rattle.network.specs.Wiring.{paper}
+use Rattle.network.specs.Network.{network}
 use Rattle.network.specs.Blocks.{cut}
-use Rattle.network.specs.Log.{Entry, entryWords, words, layerEntries, runFrom}
+use Rattle.network.specs.Log.{Entry, entryWords, words, layerEntries, switches, runFrom}
 use Rattle.network.specs.Shift.{shifted}
+use Rattle.wirings.specs.declared.Net.{Net}
+use Rattle.wirings.specs.Nets.{wiringOf}
 
--- What is lent for `count` switches of the network of m places from place o, whose entries stand in the log from entry
--- number e on: m blocks, and bits and log for e + count entries.
-pub record Lent (width m o count e : ℕ) (bytes bits log : List ℕ) : Type 0 where
-  pub places : o + m ≤ 1024
+-- how many blocks of `width` bytes are lent
+unfoldable pub blocksIn : ℕ → List ℕ → ℕ
+blocksIn width bytes = length bytes / width
+
+-- What is lent for `count` switches, whose entries stand in the log from entry number e on: the blocks from place o of the whole on,
+-- and bits and log for e + count entries.
+pub record Lent (width o count e : ℕ) (bytes bits log : List ℕ) : Type 0 where
+  pub places : o + blocksIn width bytes ≤ 1024
   pub wide : 1 ≤ width
   pub narrow : width ≤ 256
-  pub whole : m * width ≡ length bytes
+  pub whole : blocksIn width bytes * width ≡ length bytes
   pub enough : e + count ≤ length bits
   pub room : entryWords * (e + count) ≤ length log
   pub settings : Bits bits
 
--- The entries `es` were run: on the m lent blocks of `width` bytes, their places counted in these, and each under its own bit, the first
+-- The entries `es` were run: on the lent blocks of `width` bytes, their places counted in these, and each under its own bit, the first
 -- being entry number e. They stand in the log from there on, their places counted in the whole, where the lent blocks begin at place o;
 -- the rest of the log is kept. `bytes` and `log` are the buffers before, `bytes′` and `log′` after.
-pub record Ran (width m : ℕ) (bit : ℕ → ℕ) (es : List Entry) (o e : ℕ) (bytes log bytes′ log′ : List ℕ) : Type 0 where
-  pub blocks : cut width m bytes′ ≡ runFrom [] bit e es (cut width m bytes)
+pub record Ran (width : ℕ) (bit : ℕ → ℕ) (es : List Entry) (o e : ℕ) (bytes log bytes′ log′ : List ℕ) : Type 0 where
+  pub blocks : cut width (blocksIn width bytes) bytes′ ≡ runFrom [] bit e es (cut width (blocksIn width bytes) bytes)
   pub logged : log′ ≡ overlay log (entryWords * e) (words (shifted o es))
 
 -- the bit of an entry: of mix bit e, of return the bit that is as far from the last as e is from 0
@@ -37,6 +43,17 @@ bitAt bits e = getD bits e 0
 abbrev pub bitBack : List ℕ → ℕ → ℕ
 bitBack bits e = getD bits (length bits - 1 - e) 0
 
--- the first c switches of a layer of the paper's network of m places
-abbrev pub layerOf : ℕ → ℕ → List Entry
-layerOf m c = layerEntries (paper .enc (up m)) c
+-- the first c switches of a layer: switch i on the place i steps from the first, and on the one a gap further
+abbrev pub layerOf : ℕ → ℕ → ℕ → List Entry
+layerOf step gap c = layerEntries (λ p. cond (p .1) (p .0 * step + gap) (p .0 * step)) c
+
+-- their places are among n, and so is the step
+pub record Pairs (n step gap c : ℕ) : Type 0 where
+  pub pace : step ≤ n
+  pub apart : 1 ≤ gap
+  pub near : gap < n
+  pub lies : (i : ℕ) → i < c → i * step + gap < n
+
+-- all switches of a network in the sequence of their bits, their places counted from its own first
+abbrev pub switchesOf : Net → List Entry
+switchesOf net = switches (wiringOf (net .topology)) (network (net .size)) (λ i. i * net .apart)

@@ -3,38 +3,40 @@
 // asked their questions before: so a layer `requires` what they have settled.
 ghost use mathlib.Core.Path.{_≡_};
 ghost use mathlib.Core.List.{reverse};
-ghost use Prim.Native.Nat.{_+_, _≤_, _%_};
-ghost use Rattle.network.specs.Network.{down};
-ghost use Rattle.apply_layers.specs.Ran.{Lent, Ran, bitAt, bitBack, layerOf};
+ghost use Prim.Native.Nat.{_+_, _%_};
+ghost use Rattle.apply_layers.specs.Ran.{blocksIn, Lent, Pairs, Ran, bitAt, bitBack, layerOf};
 
-// The first c switches of a layer of the network of m places from o, first to last: switch i on the places i and k + i,
-// under bit e + i, logged as entry e + i. Of each block `whole` bytes go in parts of 32, and the `rest` behind them.
+// The first c switches of a layer, first to last, on the blocks from place o on: switch i on the block i steps from the first and on
+// the one a gap further, under bit e + i, logged as entry e + i. Of each block `whole` bytes go in parts of 32, and the `rest`
+// behind them.
 pub fn in_parts(
     blocks: &mut [u8],
     width: usize,
     whole: usize,
     rest: usize,
-    m: usize,
+    step: usize,
+    gap: usize,
     c: usize,
     o: usize,
     bits: &[u8],
     log: &mut [u16],
     e: usize,
 )
-    requires { ⌜ Lent width m o c e (now blocks) (now bits) (now log) × (c ≤ down m) × (width ≡ whole + rest)
-        × (whole % 32 ≡ 0) ⌝ }
-    ensures { λ _. ⌜ Ran width m (bitAt (now (bits .entry))) (layerOf m c) o e (now (blocks .entry)) (now (log .entry))
+    requires { ⌜ Lent width o c e (now blocks) (now bits) (now log) × Pairs (blocksIn width (now blocks)) step gap c
+        × (width ≡ whole + rest) × (whole % 32 ≡ 0) ⌝ }
+    ensures { λ _. ⌜ Ran width (bitAt (now (bits .entry))) (layerOf step gap c) o e (now (blocks .entry)) (now (log .entry))
         (now (blocks .exit)) (now (log .exit)) ⌝ }
 {
-    let k = (m + 1) / 2;
-    let gap = k * width;
+    let stride = step * width;
+    let across = gap * width;
     let mut i = 0;
     while i < c {
         let s = bits[e + i];
-        let a = i * width; // the first byte of block i
-        apply_exchange::exchange_whole(blocks, whole, a, gap, s);
-        apply_exchange::exchange_rest(blocks, rest, a + whole, gap, s);
-        entry_log::write_entry(log, e + i, 7, o + i, o + (k + i));
+        let p = i * step; // the lower place
+        let a = i * stride; // its first byte
+        apply_exchange::exchange_whole(blocks, whole, a, across, s);
+        apply_exchange::exchange_rest(blocks, rest, a + whole, across, s);
+        entry_log::write_entry(log, e + i, 7, o + p, o + (p + gap));
         i += 1;
     }
 }
@@ -45,30 +47,32 @@ pub fn in_parts_back(
     width: usize,
     whole: usize,
     rest: usize,
-    m: usize,
+    step: usize,
+    gap: usize,
     c: usize,
     o: usize,
     bits: &[u8],
     log: &mut [u16],
     e: usize,
 )
-    requires { ⌜ Lent width m o c e (now blocks) (now bits) (now log) × (c ≤ down m) × (width ≡ whole + rest)
-        × (whole % 32 ≡ 0) ⌝ }
-    ensures { λ _. ⌜ Ran width m (bitBack (now (bits .entry))) (reverse (layerOf m c)) o e (now (blocks .entry))
+    requires { ⌜ Lent width o c e (now blocks) (now bits) (now log) × Pairs (blocksIn width (now blocks)) step gap c
+        × (width ≡ whole + rest) × (whole % 32 ≡ 0) ⌝ }
+    ensures { λ _. ⌜ Ran width (bitBack (now (bits .entry))) (reverse (layerOf step gap c)) o e (now (blocks .entry))
         (now (log .entry)) (now (blocks .exit)) (now (log .exit)) ⌝ }
 {
-    let k = (m + 1) / 2;
-    let gap = k * width;
+    let stride = step * width;
+    let across = gap * width;
     let first = bits.len() - (e + c);
     let mut i = c;
     let mut to = e;
     while 0 < i {
         i -= 1;
         let s = bits[first + i];
-        let a = i * width;
-        apply_exchange::exchange_whole(blocks, whole, a, gap, s);
-        apply_exchange::exchange_rest(blocks, rest, a + whole, gap, s);
-        entry_log::write_entry(log, to, 7, o + i, o + (k + i));
+        let p = i * step;
+        let a = i * stride;
+        apply_exchange::exchange_whole(blocks, whole, a, across, s);
+        apply_exchange::exchange_rest(blocks, rest, a + whole, across, s);
+        entry_log::write_entry(log, to, 7, o + p, o + (p + gap));
         to += 1;
     }
 }

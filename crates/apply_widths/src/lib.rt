@@ -1,9 +1,7 @@
 // A layer of switches, in a form that is made for the blocks' width. The bits and the bytes of the blocks are secret: no branch and no
 // index depends on them.
 ghost use mathlib.Core.List.{reverse};
-ghost use Prim.Native.Nat.{_≤_};
-ghost use Rattle.network.specs.Network.{down};
-ghost use Rattle.apply_layers.specs.Ran.{Lent, Ran, bitAt, bitBack, layerOf};
+ghost use Rattle.apply_layers.specs.Ran.{blocksIn, Lent, Pairs, Ran, bitAt, bitBack, layerOf};
 
 // The layer first to last. The commonest widths are told apart only so that the loop is compiled anew for each of them, and
 // widths of whole parts so that it has no rest. Public for the crate `apply_forward` only, whose callers have asked their
@@ -11,32 +9,33 @@ ghost use Rattle.apply_layers.specs.Ran.{Lent, Ran, bitAt, bitBack, layerOf};
 pub fn layer(
     blocks: &mut [u8],
     width: usize,
-    m: usize,
+    step: usize,
+    gap: usize,
     c: usize,
     o: usize,
     bits: &[u8],
     log: &mut [u16],
     e: usize,
 )
-    requires { ⌜ Lent width m o c e (now blocks) (now bits) (now log) × (c ≤ down m) ⌝ }
-    ensures { λ _. ⌜ Ran width m (bitAt (now (bits .entry))) (layerOf m c) o e (now (blocks .entry)) (now (log .entry))
+    requires { ⌜ Lent width o c e (now blocks) (now bits) (now log) × Pairs (blocksIn width (now blocks)) step gap c ⌝ }
+    ensures { λ _. ⌜ Ran width (bitAt (now (bits .entry))) (layerOf step gap c) o e (now (blocks .entry)) (now (log .entry))
         (now (blocks .exit)) (now (log .exit)) ⌝ }
 {
     match width {
-        1 => apply_layers::in_parts(blocks, width, 0, 1, m, c, o, bits, log, e),
-        6 => apply_layers::in_parts(blocks, width, 0, 6, m, c, o, bits, log, e),
-        8 => apply_layers::in_parts(blocks, width, 0, 8, m, c, o, bits, log, e),
-        16 => apply_layers::in_parts(blocks, width, 0, 16, m, c, o, bits, log, e),
-        32 => apply_layers::in_parts(blocks, width, 32, 0, m, c, o, bits, log, e),
-        64 => apply_layers::in_parts(blocks, width, 64, 0, m, c, o, bits, log, e),
-        256 => apply_layers::in_parts(blocks, width, 256, 0, m, c, o, bits, log, e),
+        1 => apply_layers::in_parts(blocks, width, 0, 1, step, gap, c, o, bits, log, e),
+        6 => apply_layers::in_parts(blocks, width, 0, 6, step, gap, c, o, bits, log, e),
+        8 => apply_layers::in_parts(blocks, width, 0, 8, step, gap, c, o, bits, log, e),
+        16 => apply_layers::in_parts(blocks, width, 0, 16, step, gap, c, o, bits, log, e),
+        32 => apply_layers::in_parts(blocks, width, 32, 0, step, gap, c, o, bits, log, e),
+        64 => apply_layers::in_parts(blocks, width, 64, 0, step, gap, c, o, bits, log, e),
+        256 => apply_layers::in_parts(blocks, width, 256, 0, step, gap, c, o, bits, log, e),
         _ => {
             if width % 32 == 0 {
-                apply_layers::in_parts(blocks, width, width, 0, m, c, o, bits, log, e);
+                apply_layers::in_parts(blocks, width, width, 0, step, gap, c, o, bits, log, e);
             } else {
                 let rest = width % 32;
-                let whole = width / 32 * 32;
-                apply_layers::in_parts(blocks, width, whole, rest, m, c, o, bits, log, e);
+                let w = width / 32 * 32; // the whole parts
+                apply_layers::in_parts(blocks, width, w, rest, step, gap, c, o, bits, log, e);
             }
         }
     }
@@ -46,32 +45,33 @@ pub fn layer(
 pub fn layer_back(
     blocks: &mut [u8],
     width: usize,
-    m: usize,
+    step: usize,
+    gap: usize,
     c: usize,
     o: usize,
     bits: &[u8],
     log: &mut [u16],
     e: usize,
 )
-    requires { ⌜ Lent width m o c e (now blocks) (now bits) (now log) × (c ≤ down m) ⌝ }
-    ensures { λ _. ⌜ Ran width m (bitBack (now (bits .entry))) (reverse (layerOf m c)) o e (now (blocks .entry))
+    requires { ⌜ Lent width o c e (now blocks) (now bits) (now log) × Pairs (blocksIn width (now blocks)) step gap c ⌝ }
+    ensures { λ _. ⌜ Ran width (bitBack (now (bits .entry))) (reverse (layerOf step gap c)) o e (now (blocks .entry))
         (now (log .entry)) (now (blocks .exit)) (now (log .exit)) ⌝ }
 {
     match width {
-        1 => apply_layers::in_parts_back(blocks, width, 0, 1, m, c, o, bits, log, e),
-        6 => apply_layers::in_parts_back(blocks, width, 0, 6, m, c, o, bits, log, e),
-        8 => apply_layers::in_parts_back(blocks, width, 0, 8, m, c, o, bits, log, e),
-        16 => apply_layers::in_parts_back(blocks, width, 0, 16, m, c, o, bits, log, e),
-        32 => apply_layers::in_parts_back(blocks, width, 32, 0, m, c, o, bits, log, e),
-        64 => apply_layers::in_parts_back(blocks, width, 64, 0, m, c, o, bits, log, e),
-        256 => apply_layers::in_parts_back(blocks, width, 256, 0, m, c, o, bits, log, e),
+        1 => apply_layers::in_parts_back(blocks, width, 0, 1, step, gap, c, o, bits, log, e),
+        6 => apply_layers::in_parts_back(blocks, width, 0, 6, step, gap, c, o, bits, log, e),
+        8 => apply_layers::in_parts_back(blocks, width, 0, 8, step, gap, c, o, bits, log, e),
+        16 => apply_layers::in_parts_back(blocks, width, 0, 16, step, gap, c, o, bits, log, e),
+        32 => apply_layers::in_parts_back(blocks, width, 32, 0, step, gap, c, o, bits, log, e),
+        64 => apply_layers::in_parts_back(blocks, width, 64, 0, step, gap, c, o, bits, log, e),
+        256 => apply_layers::in_parts_back(blocks, width, 256, 0, step, gap, c, o, bits, log, e),
         _ => {
             if width % 32 == 0 {
-                apply_layers::in_parts_back(blocks, width, width, 0, m, c, o, bits, log, e);
+                apply_layers::in_parts_back(blocks, width, width, 0, step, gap, c, o, bits, log, e);
             } else {
                 let rest = width % 32;
-                let whole = width / 32 * 32;
-                apply_layers::in_parts_back(blocks, width, whole, rest, m, c, o, bits, log, e);
+                let w = width / 32 * 32; // the whole parts
+                apply_layers::in_parts_back(blocks, width, w, rest, step, gap, c, o, bits, log, e);
             }
         }
     }

@@ -1,66 +1,67 @@
 -- From what the sweeps left to the step of the definition.
 -- Assumes nothing.
 use mathlib.Core.Path.{_≡_, _∙_}
-use mathlib.Core.Bool.{Bool, true, false}
+use mathlib.Core.Bool.{Bool, false}
 use mathlib.Core.List.{List}
-use Prim.Native.Nat.{ℕ, _+_, _-_, _*_, _/_, _%_, _<_}
-use native.Mathlib.Omega.{arith}
+use Prim.Native.Nat.{ℕ, _+_, _-_, _/_, _%_, _<_}
 use lib.Dec.{eqb}
 use lib.ListN.{getD}
 use Rattle.counts.specs.Counts.{up}
-use Rattle.network.specs.Wiring.{paper}
+use Rattle.network.specs.Network.{down}
+use Rattle.network.proofs.Places.{lies-both, lies-below}
 use Rattle.steps.specs.Sweeps.{each, act}
 use Rattle.steps.specs.State.{State, outputBit}
-use Rattle.steps.specs.Steps.{digit, step4, step5, step6}
-use Rattle.control_sweeps.specs.Tables.{Within}
+use Rattle.steps.specs.Steps.{step4, step5, step6}
+use Rattle.wirings.specs.declared.Net.{Net}
+use Rattle.wirings.specs.Nets.{wiringOf, placeOf, sideOf}
+use Rattle.wirings.proofs.Halves.{lawful}
+use Rattle.control_sweeps.specs.Tables.{Within, Parted, Joined}
 use Rattle.control_sweeps.proofs.Bounds.{act-within}
 use Rattle.control_walk.specs.declared.Walk.{Walk}
-use Rattle.control_walk.specs.Walks.{state, within}
+use Rattle.control_walk.specs.Walks.{state, subnetworkOf}
 use Rattle.control_walk.proofs.Going.{onward}
 use Rattle.control_layers.specs.Switches.{Switched}
 
 -- the output switches move the values of the network's own places alone
-pub outputs-within : (o m b : ℕ) (bits : List ℕ) (n : ℕ) (xs : List ℕ) → Within o m b xs
-    → Within o m b (act (λ p. o + paper .enc (up m) p) bits n (m - up m) xs)
-outputs-within o m b bits n xs h =
-    act-within o m b (λ p. o + paper .enc (up m) p) bits n (m - up m) xs (λ i t l. below i t l) (λ i t l. omega arith) h
+pub outputs-within : (net : Net) (b : ℕ) (bits : List ℕ) (n : ℕ) (xs : List ℕ) → Within (placeOf net) (net .size) b xs
+    → Within (placeOf net) (net .size) b (act (λ p. placeOf net (sideOf net p)) bits n (down (net .size)) xs)
+outputs-within net b bits n xs h = act-within (placeOf net) (net .size) b (sideOf net) bits n (down (net .size)) xs real h
   where
-    below : (i : ℕ) (t : Bool) → i < m - up m → o + paper .enc (up m) (i, t) < o + m
-    below i true l = omega arith
-    below i false l = omega arith
+    real : (i : ℕ) (t : Bool) → i < down (net .size) → sideOf net (i, t) < net .size
+    real i t l = lies-below (lawful (net .topology)) (net .size) (i, t) (lies-both (net .size) (i, t) l)
 
-module _ (o m bit : ℕ) (vs ts ms bs : List ℕ) (w : Walk) where
-  abbrev pub switches : List ℕ → ℕ → ℕ → List ℕ → List ℕ
-  switches bits b n xs = act (λ p. o + paper .enc (up m) p) bits b n xs
+module _ (net : Net) (bit : ℕ) (vs ts ms bs : List ℕ) (w : Walk) where
+  abbrev switches : List ℕ → ℕ → ℕ → List ℕ → List ℕ
+  switches bits b n xs = act (λ p. placeOf net (sideOf net p)) bits b n xs
 
-  pub step4-is : (r : Walk) (n : ℕ) (vs′ ts′ ms′ : List ℕ) → vs′ ≡ switches bs bit (up m - 1) vs → ts′ ≡ switches bs bit (up m - 1) ts
-      → ms′ ≡ each (λ i. i) (up m) (λ i x. 0) ms → r ≡ onward n w
-      → state vs′ ts′ ms′ bs r ≡ step4 paper (within o m bit) (state vs ts ms bs w)
+  pub step4-is : (r : Walk) (n : ℕ) (vs′ ts′ ms′ : List ℕ) → vs′ ≡ switches bs bit (up (net .size) - 1) vs
+      → ts′ ≡ switches bs bit (up (net .size) - 1) ts → ms′ ≡ each (λ i. i) (up (net .size)) (λ i x. 0) ms → r ≡ onward n w
+      → state vs′ ts′ ms′ bs r ≡ step4 (wiringOf (net .topology)) (subnetworkOf net bit) (state vs ts ms bs w)
   unfolding step4
   step4-is r n vs′ ts′ ms′ ev et em er = rw (er, ev, et, em)
 
-  pub step5-is : (r : Walk) (n : ℕ) (vs′ ts′ : List ℕ) → vs′ ≡ each (λ i. o + i) m (λ i v. paper .dec (up m) v .0) vs
-      → ts′ ≡ each (λ i. o + i) m (λ i t. t * 2 + digit (paper .dec (up m) (getD vs (o + i) 0) .1)) ts → r ≡ onward n w
-      → state vs′ ts′ ms bs r ≡ step5 paper (within o m bit) (state vs ts ms bs w)
+  pub step5-is : (r : Walk) (n : ℕ) (vs′ ts′ : List ℕ) → Parted net (up (net .size)) vs ts vs′ ts′ → r ≡ onward n w
+      → state vs′ ts′ ms bs r ≡ step5 (wiringOf (net .topology)) (subnetworkOf net bit) (state vs ts ms bs w)
   unfolding step5
-  step5-is r n vs′ ts′ ev et er = rw (er, ev, et)
+  step5-is r n vs′ ts′ S er = rw (er, S .values-are, S .trails-are)
 
-  pub step6-is : (r : Walk) (n b : ℕ) (vs′ ts′ bs′ vs″ ts″ : List ℕ) → Switched o m b vs ts bs vs′ ts′ bs′
-      → vs″ ≡ each (λ i. o + i) m (λ i v. paper .enc (up m) (v, eqb (getD ts′ (o + i) 0 % 2) 1)) vs′
-      → ts″ ≡ each (λ i. o + i) m (λ i t. t / 2) ts′ → r ≡ onward n w → b ≡ outputBit (within o m bit)
-      → state vs″ ts″ ms bs′ r ≡ step6 paper (within o m bit) (state vs ts ms bs w)
+  pub step6-is : (r : Walk) (n b : ℕ) (vs′ ts′ bs′ vs″ ts″ : List ℕ) → Switched net b vs ts bs vs′ ts′ bs′
+      → Joined net (up (net .size)) vs′ ts′ vs″ ts″ → r ≡ onward n w → b ≡ outputBit (subnetworkOf net bit)
+      → state vs″ ts″ ms bs′ r ≡ step6 (wiringOf (net .topology)) (subnetworkOf net bit) (state vs ts ms bs w)
   unfolding step6
-  step6-is r n b vs′ ts′ bs′ vs″ ts″ S ev et er eb =
-      rw (er, ev, et)
+  step6-is r n b vs′ ts′ bs′ vs″ ts″ S J er eb =
+      rw (er, J .values-are, J .trails-are)
       ((λ i. after bs′ (S .values-are i) (S .trails-are i))
-      ∙ (λ i. after (S .bits-are i) (switches (S .bits-are i) b (m - up m) vs) (switches (S .bits-are i) b (m - up m) ts))
+      ∙ (λ i. after (S .bits-are i) (switches (S .bits-are i) b (down (net .size)) vs) (switches (S .bits-are i) b (down (net .size)) ts))
       ∙ (λ i. last (eb i)))
     where
       after : List ℕ → List ℕ → List ℕ → State
       after bits values trails =
           record {
-            values = each (λ i. o + i) m (λ i v. paper .enc (up m) (v, eqb (getD trails (o + i) 0 % 2) 1)) values;
-            trails = each (λ i. o + i) m (λ i t. t / 2) trails;
+            values =
+                each (placeOf net) (net .size) (λ i v. wiringOf (net .topology) .enc (up (net .size))
+                (v, eqb (getD trails (placeOf net i) 0 % 2) 1)) values;
+            trails = each (placeOf net) (net .size) (λ i t. t / 2) trails;
             marks = ms;
             bits = bits;
             f = w .f;
@@ -71,5 +72,5 @@ module _ (o m bit : ℕ) (vs ts ms bs : List ℕ) (w : Walk) where
 
       last : ℕ → State
       last n =
-          let bits : List ℕ = each (λ i. n + i) (m - up m) (λ i x. getD ts (o + i) 0 % 2) bs in
-          after bits (switches bits n (m - up m) vs) (switches bits n (m - up m) ts)
+          let bits : List ℕ = each (λ i. n + i) (down (net .size)) (λ i x. getD ts (placeOf net (sideOf net (i, false))) 0 % 2) bs in
+          after bits (switches bits n (down (net .size)) vs) (switches bits n (down (net .size)) ts)

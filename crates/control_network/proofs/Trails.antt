@@ -6,10 +6,10 @@ use mathlib.Core.List.{List}
 use Prim.Native.Nat.{ℕ, _+_, _-_, _*_, _/_, _≤_, _<_}
 use native.Mathlib.Nat.{le-trans, le-refl, mul-le-mul, mul-assoc}
 use native.Mathlib.Omega.{arith}
+use native.Mathlib.Decide.{decLt}
 use lib.ListN.{length, getD}
 use Rattle.counts.specs.Counts.{up}
-use Rattle.network.specs.Wiring.{Side, paper}
-use Rattle.network.proofs.Paper.{paper-lawful}
+use Rattle.network.specs.Wiring.{Side, Lawful}
 use Rattle.canonical.specs.Rule.{half}
 use Rattle.canonical.proofs.Halves.{feeder}
 use Rattle.steps.specs.State.{State, Subnetwork}
@@ -20,69 +20,92 @@ use Rattle.steps.proofs.Sweeps.{each-at}
 use Rattle.steps_canonical.specs.Table.{Ordered}
 use Rattle.steps_canonical.proofs.Rounds.{inputOf}
 use Rattle.steps_canonical.proofs.Entering.{Turned, turned}
+use Rattle.wirings.specs.declared.Net.{Net}
+use Rattle.wirings.specs.Nets.{wiringOf, placeOf, sideOf, Inside}
+use Rattle.wirings.proofs.Halves.{lawful, rises}
 use Rattle.control_sweeps.specs.Tables.{Within}
-use Rattle.control_walk.specs.Walks.{within}
+use Rattle.control_walk.specs.Walks.{subnetworkOf}
 use Rattle.control_network.specs.Inner.{Lengthens}
 use Rattle.control_network.proofs.Bounds.{order-small}
 
-pub unlike-from : (o m : ℕ) → Unlike m (λ i. o + i)
+-- no two of a network's places are one
+pub unlike : (net : Net) → 1 ≤ net .apart → Unlike (net .size) (placeOf net)
 unfolding Unlike
-unlike-from o m i j li lj e = omega arith
+unlike net far i j li lj e = go (decLt i j) (decLt j i)
+  where
+    go : Dec (i < j) → Dec (j < i) → i ≡ j
+    go (yes l) q = absurd (omega (arith, rises net far i j l, e))
+    go (no l) (yes k) = absurd (omega (arith, rises net far j i k, e))
+    go (no l) (no k) = omega arith
 
 -- the values of an order of at most 1,024 places are small
-pub ordered-within : (o m bit : ℕ) (x : State) → m ≤ 1024 → Ordered (within o m bit) x → Within o m 32768 (x .values)
+pub ordered-within : (net : Net) (bit : ℕ) (x : State) → net .size ≤ 1024 → Ordered (subnetworkOf net bit) x
+    → Within (placeOf net) (net .size) 32768 (x .values)
 unfolding Within
-ordered-within o m bit x h S = order-small (within o m bit) (S .order) x h (S .permutation) (S .holding)
+ordered-within net bit x h S = order-small (subnetworkOf net bit) (S .order) x h (S .permutation) (S .holding)
 
-module _ (o m bit : ℕ) (two : 2 ≤ m) (x : State) (S : Ordered (within o m bit) x) where
+module _ (net : Net) (far : 1 ≤ net .apart) (bit : ℕ) (two : 2 ≤ net .size) (x : State) (S : Ordered (subnetworkOf net bit) x) where
   abbrev N : Subnetwork
-  N = within o m bit
+  N = subnetworkOf net bit
+
+  abbrev L : Lawful (wiringOf (net .topology))
+  L = lawful (net .topology)
+
+  abbrev m : ℕ
+  m = net .size
 
   abbrev y : State
-  y = inputSteps paper N x
+  y = inputSteps (wiringOf (net .topology)) N x
 
   abbrev input : List ℕ
   input = inputOf N (y .bits)
 
-  T : Turned paper-lawful N (unlike-from o m) two (S .order) (S .permutation) x (S .holding) y
-  T = turned paper-lawful N (unlike-from o m) two (S .order) (S .permutation) x (S .holding)
+  T : Turned L N (unlike net far) two (S .order) (S .permutation) x (S .holding) y
+  T = turned L N (unlike net far) two (S .order) (S .permutation) x (S .holding)
 
   -- what holds of each item of the network's places holds of each after the input steps, which exchange them
   come : (xs ys : List ℕ) → ((i : ℕ) (t : Bool) → i < sizeOf m t
-      → getD ys (o + paper .enc (up m) (i, t)) 0 ≡ getD xs (o + paper .enc (up m) (feeder input t i)) 0)
-      → (P : ℕ → Type 0) → ((q : ℕ) → q < m → P (getD xs (o + q) 0)) → (q : ℕ) → q < m → P (getD ys (o + q) 0)
+      → getD ys (placeOf net (sideOf net (i, t))) 0 ≡ getD xs (placeOf net (sideOf net (feeder input t i))) 0)
+      → (P : ℕ → Type 0) → ((q : ℕ) → q < m → P (getD xs (placeOf net q) 0)) → (q : ℕ) → q < m → P (getD ys (placeOf net q) 0)
   come xs ys from P all q l =
-      let p : Side = paper .dec (up m) q in
-      let e : paper .enc (up m) p ≡ q = paper-lawful .enc-dec (up m) q (omega arith) in
-      let lies : p .0 < sizeOf m (p .1) = real⁻ paper paper-lawful m p (paper-lawful .dec< (up m) q (omega arith)) (rw e l) in
-      let there = real paper paper-lawful m (half input p) (p .0) (T .sides (p .0) (p .1) lies) in
-      subst (λ z. P (getD ys (o + z) 0)) e (subst P (sym (from (p .0) (p .1) lies)) (all (paper .enc (up m) (feeder input (p .1) (p .0))) there))
+      let w = wiringOf (net .topology) in
+      let p : Side = w .dec (up m) q in
+      let e : w .enc (up m) p ≡ q = L .enc-dec (up m) q (omega arith) in
+      let lies : p .0 < sizeOf m (p .1) = real⁻ w L m p (L .dec< (up m) q (omega arith)) (rw e l) in
+      let there = real w L m (half input p) (p .0) (T .sides (p .0) (p .1) lies) in
+      subst (λ z. P (getD ys (placeOf net z) 0)) e
+      (subst P (sym (from (p .0) (p .1) lies)) (all (sideOf net (feeder input (p .1) (p .0))) there))
 
-  pub values-come : (P : ℕ → Type 0) → ((q : ℕ) → q < m → P (getD (x .values) (o + q) 0)) → (q : ℕ) → q < m → P (getD (y .values) (o + q) 0)
+  values-come : (P : ℕ → Type 0) → ((q : ℕ) → q < m → P (getD (x .values) (placeOf net q) 0)) → (q : ℕ) → q < m → P
+      (getD (y .values) (placeOf net q) 0)
   values-come = come (x .values) (y .values) (T .value-at)
 
-  trails-come : (P : ℕ → Type 0) → ((q : ℕ) → q < m → P (getD (x .trails) (o + q) 0)) → (q : ℕ) → q < m → P (getD (y .trails) (o + q) 0)
+  trails-come : (P : ℕ → Type 0) → ((q : ℕ) → q < m → P (getD (x .trails) (placeOf net q) 0)) → (q : ℕ) → q < m → P
+      (getD (y .trails) (placeOf net q) 0)
   trails-come = come (x .trails) (y .trails) (T .trail-at)
 
   -- so both are small before step 5
-  pub values-within : m ≤ 1024 → Within o m 32768 (y .values)
+  pub values-within : m ≤ 1024 → Within (placeOf net) m 32768 (y .values)
   unfolding Within
   values-within h = values-come (λ v. v < 32768) (order-small N (S .order) x h (S .permutation) (S .holding))
 
-  pub trails-within : Lengthens o m (x .trails) → Within o m 32768 (y .trails)
+  pub trails-within : Lengthens (placeOf net) m (x .trails) → Within (placeOf net) m 32768 (y .trails)
   unfolding Within Lengthens
-  trails-within L i l = small (getD (y .trails) (o + i) 0) (trails-come (λ t. (t + 1) * (m - 1) ≤ 1023) L i l)
+  trails-within l i h = small (getD (y .trails) (placeOf net i) 0) (trails-come (λ t. (t + 1) * (m - 1) ≤ 1023) l i h)
     where
       small : (t : ℕ) → (t + 1) * (m - 1) ≤ 1023 → t < 32768
       small t q = let one : 1 ≤ m - 1 = omega arith in omega (arith, mul-le-mul (le-refl (t + 1)) one)
 
   -- and after it a trail has the bit more that the halves leave room for
-  pub halfway : o + m ≤ length (x .trails) → Lengthens o m (x .trails) → (i : ℕ) → i < m
-      → (getD (step5 paper N y .trails) (o + i) 0 / 2 + 1) * (m - 1) ≤ 1023
+  pub halfway : Inside (length (x .trails)) net → Lengthens (placeOf net) m (x .trails) → (i : ℕ) → i < m
+      → (getD (step5 (wiringOf (net .topology)) N y .trails) (placeOf net i) 0 / 2 + 1) * (m - 1) ≤ 1023
   unfolding step5 Lengthens
-  halfway room L i l =
-      rw (each-at (λ j. o + j) _ (y .trails) m (unlike-from o m) (λ j lj. omega (arith, T .framed .trails-length)) i l, gained (getD (y .trails) (o + i) 0) _)
-      (trails-come (λ t. (t + 1) * (m - 1) ≤ 1023) L i l)
+  halfway room l i h =
+      rw (
+        each-at (placeOf net) _ (y .trails) m (unlike net far) (λ j lj. omega (arith, room .lies j lj, T .framed .trails-length)) i h,
+        gained (getD (y .trails) (placeOf net i) 0) _,
+      )
+      (trails-come (λ t. (t + 1) * (m - 1) ≤ 1023) l i h)
     where
       gained : (t : ℕ) (b : Bool) → (t * 2 + digit b) / 2 ≡ t
       gained t true = omega arith

@@ -1,4 +1,4 @@
--- Selecting by arithmetic: the carry of a sum as a test, masks, and the paper's pairs with no branch.
+-- Selecting by arithmetic: the carry of a sum as a test, and masks.
 -- Assumes nothing.
 use mathlib.Core.Path.{_≡_, refl, _∙_}
 use mathlib.Core.Bool.{Bool, true, false, not, cond}
@@ -10,8 +10,7 @@ use mir.Val.{boolByte}
 use lib.Bits.{bitAnd, bitOr, and-mask, and-zero-r, or-zero-r, or-zero-l}
 use lib.Dec.{ltb, eqb}
 use borrow.Author.Tests.{lt-ltb, le-ltb, eq-eqb, ne-eqb}
-use Rattle.network.specs.Wiring.{paper}
-use Rattle.steps.specs.Steps.{other, digit}
+use Rattle.steps.specs.Steps.{digit}
 
 pub digit-small : (b : Bool) → digit b < 2
 digit-small true = omega arith
@@ -79,46 +78,3 @@ pub mask-fits : (s M : ℕ) → s < 2 → s * M ≤ M
 mask-fits zero M h = omega arith
 mask-fits (suc zero) M h = omega arith
 mask-fits (suc (suc s)) M h = absurd (omega arith)
-
--- ---- the paper's pairs
-
--- of the place p of k pairs: the sums of the code fit, and what they give
-pub record Pairs (k p : ℕ) : Type 0 where
-  pub fits : k * digit (not (ltb p k)) ≤ k
-  pub within : k * digit (not (ltb p k)) ≤ p
-  pub twice-fits : 2 * k * digit (not (ltb p k)) ≤ 2 * k
-  pub twice-within : 2 * k * digit (not (ltb p k)) ≤ p + k
-  pub pair : p - k * digit (not (ltb p k)) ≡ paper .dec k p .0
-  pub across : p + k - 2 * k * digit (not (ltb p k)) ≡ other paper k p
-  pub side : digit (not (ltb p k)) ≡ digit (paper .dec k p .1)
-
-pub pairs : (k p : ℕ) → Pairs k p
-pairs k p = go (decLt p k)
-  where
-    go : Dec (p < k) → Pairs k p
-    go (yes l) =
-        let q = lt-ltb p k l in
-        let z : k * 0 ≡ 0 = omega arith in
-        let z₂ : 2 * k * 0 ≡ 0 = omega arith in
-        record {
-          fits = rw q (omega arith);
-          within = rw q (omega arith);
-          twice-fits = rw q (omega arith);
-          twice-within = rw q (omega arith);
-          pair = rw (q, z) (omega arith);
-          across = rw (q, z₂) (omega arith);
-          side = rw q;
-        }
-    go (no l) =
-        let q = le-ltb p k (omega arith) in
-        let o : k * 1 ≡ k = omega arith in
-        let o₂ : 2 * k * 1 ≡ 2 * k = omega arith in
-        record {
-          fits = rw q (omega arith);
-          within = rw q (omega arith);
-          twice-fits = rw q (omega arith);
-          twice-within = rw q (omega arith);
-          pair = rw (q, o) (omega arith);
-          across = rw (q, o₂) (omega arith);
-          side = rw q;
-        }

@@ -3,10 +3,9 @@
 // before: so it may `require` sizes.
 ghost use mathlib.Core.Path.{_≡_};
 ghost use mathlib.Core.Bool.{not, cond};
-ghost use Prim.Native.Nat.{_+_, _*_, _-_, _≤_, _<_};
+ghost use Prim.Native.Nat.{_*_, _<_};
 ghost use lib.Dec.{eqb, ltb};
-ghost use Rattle.network.specs.Wiring.{paper};
-ghost use Rattle.steps.specs.Steps.{other, digit};
+ghost use Rattle.steps.specs.Steps.{digit};
 
 // 1 where a is b or more, else 0, by the carry of a sum: a comparison may be compiled to a jump.
 pub fn at_least(a: u16, b: u16) -> u16
@@ -71,20 +70,4 @@ pub fn least(a: u16, b: u16) -> u16
     ensures { λ r. ⌜ r ≡ cond (ltb a b) a b ⌝ }
 {
     pick(less(a, b), a, b)
-}
-
-// The pair of the place p of k pairs; of a value, what it keeps in its half.
-pub fn pair_of(k: u16, p: u16) -> u16
-    requires { ⌜ (k ≤ 1024) × (p < 32768) ⌝ }
-    ensures { λ r. ⌜ r ≡ paper .dec k p .0 ⌝ }
-{
-    p - k * at_least(p, k)
-}
-
-// The other place of p's pair; the associate of the value p.
-pub fn other_of(k: u16, p: u16) -> u16
-    requires { ⌜ (k ≤ 1024) × (p < 32768) ⌝ }
-    ensures { λ r. ⌜ r ≡ other paper k p ⌝ }
-{
-    p + k - 2 * k * at_least(p, k)
 }

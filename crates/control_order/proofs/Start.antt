@@ -2,8 +2,7 @@
 -- Assumes nothing.
 use mathlib.Core.Path.{_≡_, refl, sym, ap, _∙_, fun-ext}
 use mathlib.Core.List.{List, _∷_}
-use Prim.Native.Nat.{ℕ, zero, suc, _+_, _-_, _*_, _≤_, _<_}
-use native.Mathlib.Nat.{zero-add}
+use Prim.Native.Nat.{ℕ, zero, suc, _+_, _*_, _≤_, _<_}
 use native.Mathlib.Omega.{arith}
 use lib.ListN.{length, getD, take, replicate, length-replicate}
 use lib.Seq.{ext-getD}
@@ -24,10 +23,13 @@ use Rattle.steps.proofs.Running.{run-is-fold}
 use Rattle.steps.proofs.Sweeps.{length-each, each-at}
 use Rattle.steps.proofs.Lengths.{length-entries}
 use Rattle.steps_canonical.specs.Table.{Ordered}
-use Rattle.control_sweeps.specs.Tables.{Below}
+use Rattle.wirings.specs.declared.Topology.the-variants.{Paper}
+use Rattle.wirings.specs.declared.Net.{Net}
+use Rattle.wirings.specs.Nets.{wiringOf, wholeOf, placeOf}
+use Rattle.control_sweeps.specs.Tables.{Below, Covers}
 use Rattle.control_pairs.proofs.Held.{zero-at}
 use Rattle.control_walk.specs.declared.Walk.{Walk}
-use Rattle.control_walk.specs.Walks.{within, Went}
+use Rattle.control_walk.specs.Walks.{subnetworkOf, Went}
 use Rattle.control_network.specs.Inner.{Room, Tidy, Lengthens, unmarked}
 use Rattle.control_order.specs.Inner.{Sets}
 
@@ -64,9 +66,17 @@ pub zeros-below : (b n : ℕ) → 0 < b → Below b (replicate {A = ℕ} n 0)
 unfolding Below
 zeros-below b n h i = rw (zero-at n i) h
 
-pub zeros-lengthen : (n : ℕ) → n ≤ 1024 → Lengthens 0 n (replicate {A = ℕ} n 0)
+-- the network of all n places, as the code makes it
+abbrev pub all : ℕ → Net
+all n = wholeOf Paper n
+
+-- where place i of it lies
+at : (n : ℕ) → _≡_ {A = ℕ → ℕ} (placeOf (all n)) (λ i. i)
+at n = fun-ext (λ i. omega arith)
+
+pub zeros-lengthen : (n : ℕ) → n ≤ 1024 → Lengthens (placeOf (all n)) n (replicate {A = ℕ} n 0)
 unfolding Lengthens
-zeros-lengthen n h i l = rw (zero-at n (0 + i)) (omega arith)
+zeros-lengthen n h i l = rw (zero-at n (0 + i * 1)) (omega arith)
 
 abbrev pub still : Walk
 still = record { f = 0; c = 0; g = 0; s = 0; any = 0; e = 0; b = 0 }
@@ -82,7 +92,7 @@ tidy-start order =
     }
 
 pub ordered-start : (order vs ts bs : List ℕ) → length order ≤ 1024 → IsPermutation (length order) order → vs ≡ order
-    → length ts ≡ length order → length bs ≡ W (length order) → Ordered (within 0 (length order) 0) (unmarked 512 vs ts bs still)
+    → length ts ≡ length order → length bs ≡ W (length order) → Ordered (subnetworkOf (all (length order)) 0) (unmarked 512 vs ts bs still)
 ordered-start order vs ts bs h P e lt lb =
     let lv : length vs ≡ length order = ap length e in
     record {
@@ -95,7 +105,7 @@ ordered-start order vs ts bs h P e lt lb =
             marks-room = omega (arith, length-replicate {A = ℕ} 512 0);
             bits-room = omega (arith, lb);
             unmarked = λ i. zero-at 512 i;
-            order = λ i l. ap (λ (k : ℕ). getD vs k 0) (zero-add i) ∙ ap (λ (l : List ℕ). getD l i 0) e;
+            order = λ i l. ap (λ (place : ℕ → ℕ). getD vs (place i) 0) (at (length order)) ∙ ap (λ (l : List ℕ). getD l i 0) e;
           };
     }
 
@@ -108,18 +118,19 @@ start-is order vs ts bs e₁ e₂ e₃ = rw (e₁, e₂, e₃)
 pub sets-whole : (order vs ts bs bits log bits′ log′ : List ℕ) (vs′ ts′ : List ℕ) (r : Walk)
     → vs ≡ order → ts ≡ replicate {A = ℕ} (length order) 0
     → bs ≡ each (λ i. i) (length bits) (λ i x. 0) bits → length bits ≡ W (length order)
-    → Went (entriesOf paper (network (length order)) (λ i. 0 + i)) (W (length order)) still r log log′
+    → Went (entriesOf (wiringOf Paper) (network (length order)) (placeOf (all (length order)))) (W (length order)) still r log log′
     → ((j : ℕ) → up (length order) ≤ j
-    → unmarked j vs′ ts′ bits′ r ≡ setNet paper (network (length order)) (λ i. 0 + i) 0 (unmarked j vs ts bs still))
+    → unmarked j vs′ ts′ bits′ r ≡ setNet (wiringOf Paper) (network (length order)) (placeOf (all (length order))) 0
+    (unmarked j vs ts bs still))
     → Sets order log (r .e) bits′ log′
-unfolding setEntries
+unfolding setEntries wiringOf
 sets-whole order vs ts bs bits log bits′ log′ vs′ ts′ r e₁ e₂ e₄ l G S =
     let n : ℕ = length order in
-    let q : _≡_ {A = ℕ → ℕ} (λ i. 0 + i) (λ i. i) = fun-ext (λ i. zero-add i) in
+    let q = at n in
     let before : State = unmarked (up n) vs ts bs still in
     let s : before ≡ start order = start-is order vs ts bs e₁ e₂ (e₄ ∙ cleared bits (W n) l) in
     record {
-      count = omega (arith, G .count, length-entries paper (sized n) (λ i. 0 + i));
+      count = omega (arith, G .count, length-entries paper (sized n) (placeOf (all n)));
       bits-are =
           ap (λ (x : State). x .bits) (S (up n) (omega arith) ∙ ap (λ (p : ℕ → ℕ). setNet paper (network n) p 0 before) q)
           ∙ ap (λ (x : State). setNet paper (network n) (λ i. i) 0 x .bits) s
@@ -130,16 +141,18 @@ sets-whole order vs ts bs bits log bits′ log′ vs′ ts′ r e₁ e₂ e₄ l
 -- and the room that it starts with
 pub room-start : (order vs ts ps bs log : List ℕ) → length order ≤ 1024 → length vs ≡ length order → ts ≡ replicate {A = ℕ} (length order) 0
     → 512 ≤ length ps → length bs ≡ W (length order) → length bs ≤ 9217 → entryWords * E (length order) ≤ length log
-    → Room 0 (length order) still vs ts ps bs log
+    → Room (all (length order)) still vs ts ps bs log
 room-start order vs ts ps bs log h lv et lp lb few ll =
     let n : ℕ = length order in
     let lt : length ts ≡ n = ap length et ∙ length-replicate {A = ℕ} n 0 in
     record {
-      places = omega arith;
-      values-room = omega arith;
-      trails-room = omega arith;
+      values-room = covers vs lv;
+      trails-room = covers ts lt;
       pairs-room = lp;
       bits-room = omega arith;
       few = omega arith;
       log-room = omega arith;
     }
+  where
+    covers : (xs : List ℕ) → length xs ≡ length order → Covers (all (length order)) xs
+    covers xs e = record { inside = record { apart = omega arith; lies = λ i l. omega arith }; short = omega arith }

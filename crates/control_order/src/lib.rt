@@ -47,8 +47,7 @@ fn set_table(
         pairs,
         row,
         bits,
-        0,
-        n,
+        wirings::whole(wirings::Topology::Paper, n),
         log,
         control_walk::Walk {
             f: 0,

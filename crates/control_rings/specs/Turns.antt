@@ -6,17 +6,18 @@ use mathlib.Core.List.{List}
 use Prim.Native.Nat.{ℕ, _+_, _<_}
 use lib.Dec.{ltb, eqb}
 use lib.ListN.{getD}
-use Rattle.network.specs.Wiring.{paper}
+use Rattle.network.specs.Wiring.{Wiring}
 use Rattle.steps.specs.Steps.{other, digit}
 use Rattle.control_pairs.specs.Pairs.{Numbered, noneIn}
 use Rattle.control_walk.specs.declared.Walk.{Walk}
 
 -- the walk after step 3: low is the lowest unmarked pair, or k; any is 1 where a pair is marked
-abbrev pub turned : ℕ → ℕ → ℕ → Walk → Walk
-turned k low any w =
-    let f = other paper k (w .s) in
+abbrev pub turned : Wiring → ℕ → ℕ → ℕ → Walk → Walk
+turned wiring k low any w =
+    let f = other wiring k (w .s) in
     let again = cond (eqb f (w .c)) (ltb low k) false in
-    record { f = cond again low f; c = cond again low (w .c); g = w .g; s = w .s; any = any; e = w .e + 1; b = w .b }
+    let next = wiring .enc k (low, false) in
+    record { f = cond again next f; c = cond again next (w .c); g = w .g; s = w .s; any = any; e = w .e + 1; b = w .b }
 
 -- between two rounds: the table holds the numbers of k pairs, the walk knows whether one is marked, and its places are small
 pub record Held (k : ℕ) (pairs : List ℕ) (w : Walk) : Type 0 where

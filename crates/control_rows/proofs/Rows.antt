@@ -1,6 +1,6 @@
 -- What a row says of the table it was gathered from, and how `gather` makes one, place by place.
 -- Assumes nothing.
-use mathlib.Core.Path.{_≡_, refl, ap, _∙_}
+use mathlib.Core.Path.{_≡_, refl, _∙_}
 use mathlib.Core.Bool.{cond}
 use mathlib.Core.List.{List}
 use Prim.Native.Nat.{ℕ, zero, suc, _+_, _-_, _≤_, _<_}
@@ -14,10 +14,6 @@ use Rattle.steps.specs.Sweeps.{look, seek}
 use Rattle.control_rows.specs.Rows.{sixteens, Gathered, Padded}
 
 -- ---- for the callers
-
-pub gathered-as : (place place' : ℕ → ℕ) (m : ℕ) (xs row : List ℕ) → ((i : ℕ) → i < m → place i ≡ place' i) → Gathered place m xs row
-    → Gathered place' m xs row
-gathered-as place place' m xs row e G = record { at = λ i h. G .at i h ∙ ap (λ j. getD xs j 0) (e i h) }
 
 pub look-gathered : (place : ℕ → ℕ) (m : ℕ) (xs row : List ℕ) (p : ℕ) → Gathered place m xs row
     → look (λ i. i) m row p ≡ look place m xs p

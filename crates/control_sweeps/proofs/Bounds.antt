@@ -1,18 +1,14 @@
 -- What a sweep leaves stays as small as what it found.
 -- Assumes nothing.
-use mathlib.Core.Path.{_≡_, subst}
 use mathlib.Core.Bool.{Bool, true, false, cond}
 use mathlib.Core.List.{List, [], _∷_}
-use Prim.Native.Nat.{ℕ, zero, suc, _+_, _-_, _≤_, _<_}
+use Prim.Native.Nat.{ℕ, zero, suc, _+_, _≤_, _<_}
 use native.Mathlib.Omega.{arith}
-use native.Mathlib.Decide.{decLt}
 use lib.Dec.{ltb, eqb}
 use lib.ListN.{getD, set}
-use borrow.Author.Tests.{lt-ltb, le-ltb}
-use Rattle.network.specs.Wiring.{Side, paper}
+use Rattle.network.specs.Wiring.{Side}
 use Rattle.network.specs.Move.{switch}
 use Rattle.steps.specs.Sweeps.{seek, store, each, act}
-use Rattle.steps.specs.Steps.{other}
 use Rattle.control_sweeps.specs.Tables.{Below, Within}
 
 -- ---- tables
@@ -43,25 +39,25 @@ module _ (b : ℕ) where
       set-below (each place m F xs) (place m) _ z (before z) (f m _ (before (place m)))
 
 -- the same of the places that are swept alone
-module _ (o m b : ℕ) where
-  switch-within : (p q bit : ℕ) (xs : List ℕ) → getD xs p 0 < b → getD xs q 0 < b → Within o m b xs → Within o m b (switch 0 p q bit xs)
+module _ (place : ℕ → ℕ) (m b : ℕ) where
+  switch-within : (p q bit : ℕ) (xs : List ℕ) → getD xs p 0 < b → getD xs q 0 < b → Within place m b xs → Within place m b
+      (switch 0 p q bit xs)
   unfolding Within switch
   switch-within p q bit xs hp hq h i l = go (eqb bit 1)
     where
-      go : (t : Bool) → getD (cond t (set (set xs p (getD xs q 0)) q (getD xs p 0)) xs) (o + i) 0 < b
-      go true = set-below b (set xs p (getD xs q 0)) q (getD xs p 0) (o + i) (set-below b xs p (getD xs q 0) (o + i) (h i l) hq) hp
+      go : (t : Bool) → getD (cond t (set (set xs p (getD xs q 0)) q (getD xs p 0)) xs) (place i) 0 < b
+      go true = set-below b (set xs p (getD xs q 0)) q (getD xs p 0) (place i) (set-below b xs p (getD xs q 0) (place i) (h i l) hq) hp
       go false = h i l
 
-  pub act-within : (at : Side → ℕ) (bits : List ℕ) (n c : ℕ) (xs : List ℕ) → ((i : ℕ) (t : Bool) → i < c → at (i, t) < o + m)
-      → ((i : ℕ) (t : Bool) → i < c → o ≤ at (i, t)) → Within o m b xs → Within o m b (act at bits n c xs)
+  pub act-within : (side : Side → ℕ) (bits : List ℕ) (n c : ℕ) (xs : List ℕ) → ((i : ℕ) (t : Bool) → i < c → side (i, t) < m)
+      → Within place m b xs → Within place m b (act (λ p. place (side p)) bits n c xs)
   unfolding act Within
-  act-within at bits n zero xs below above h = h
-  act-within at bits n (suc c) xs below above h =
-      let W : Within o m b (act at bits n c xs) = act-within at bits n c xs (λ i t l. below i t (omega arith)) (λ i t l. above i t (omega arith)) h in
-      let item : (t : Bool) → getD (act at bits n c xs) (at (c, t)) 0 < b = λ t.
-      let e : o + (at (c, t) - o) ≡ at (c, t) = omega (arith, above c t (omega arith)) in
-      subst (λ z. getD (act at bits n c xs) z 0 < b) e (W (at (c, t) - o) (omega (arith, below c t (omega arith), above c t (omega arith)))) in
-      switch-within (at (c, false)) (at (c, true)) (getD bits (n + c) 0) (act at bits n c xs) (item false) (item true) W
+  act-within side bits n zero xs real h = h
+  act-within side bits n (suc c) xs real h =
+      let ys = act (λ p. place (side p)) bits n c xs in
+      let W : Within place m b ys = act-within side bits n c xs (λ i t l. real i t (omega arith)) h in
+      switch-within (place (side (c, false))) (place (side (c, true))) (getD bits (n + c) 0) ys (W _ (real c false (omega arith)))
+      (W _ (real c true (omega arith))) W
 
 -- ---- numbers
 
@@ -73,17 +69,3 @@ pub seek-below : (place : ℕ → ℕ) (m : ℕ) (xs : List ℕ) (a : ℕ) → m
 unfolding seek
 seek-below place zero xs a h l = l
 seek-below place (suc m) xs a h l = pick-below (eqb (getD xs (place m) 0) a) (omega arith) (seek-below place m xs a (omega arith) l)
-
-pub other-below : (k q : ℕ) → k ≤ 1024 → q < 32768 → other paper k q < 32768
-other-below k q h l = go (decLt q k)
-  where
-    go : Dec (q < k) → other paper k q < 32768
-    go (yes t) = rw (lt-ltb q k t) (omega arith)
-    go (no t) = rw (le-ltb q k (omega arith)) (omega arith)
-
-pub pair-within : (k q : ℕ) → paper .dec k q .0 ≤ q
-pair-within k q = go (decLt q k)
-  where
-    go : Dec (q < k) → paper .dec k q .0 ≤ q
-    go (yes l) = rw (lt-ltb q k l) (omega arith)
-    go (no l) = rw (le-ltb q k (omega arith)) (omega arith)

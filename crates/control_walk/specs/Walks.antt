@@ -7,6 +7,8 @@ use lib.ListN.{length}
 use Rattle.answers.specs.Buffers.{overlay}
 use Rattle.network.specs.Log.{Entry, entryWords, words}
 use Rattle.steps.specs.State.{State, Subnetwork}
+use Rattle.wirings.specs.declared.Net.{Net}
+use Rattle.wirings.specs.Nets.{placeOf}
 use Rattle.control_walk.specs.declared.Walk.{Walk}
 
 -- the state that the tables and a walk are
@@ -18,9 +20,9 @@ state values trails marks bits w =
 abbrev pub lying : (ℕ → ℕ) → ℕ → ℕ → Subnetwork
 lying place m bit = record { place = place; size = m; bit = bit }
 
--- that of m places from o
-abbrev pub within : ℕ → ℕ → ℕ → Subnetwork
-within o m bit = lying (λ i. o + i) m bit
+-- that of the places of `net`
+abbrev pub subnetworkOf : Net → ℕ → Subnetwork
+subnetworkOf net bit = lying (placeOf net) (net .size) bit
 
 -- the entries were written behind those before, and the walk went on by them and by n bits
 pub record Went (entries : List Entry) (n : ℕ) (w r : Walk) (before after : List ℕ) : Type 0 where

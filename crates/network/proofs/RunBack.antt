@@ -42,7 +42,7 @@ below-layer n at (suc i) h =
     below-append (below-layer n at i (λ p l. h p (omega arith)))
     (also (h (i, false) (omega arith)) (h (i, true) (omega arith)) empty)
 
-below-switches :
+pub below-switches :
     {w : Wiring} → Lawful w → {m : ℕ} {net : Network} → Sized m net → (n : ℕ) (place : ℕ → ℕ)
     → ((q : ℕ) → q < m → place q < n) → Below n (switches w net place)
 unfolding switches

@@ -18,9 +18,6 @@ use Rattle.network.specs.Network.{Network, wires, split, network, networ
 use Rattle.network.specs.Move.{switch, layer, layerBack, part, joined, forward, backward}
 use Rattle.network.specs.Log.{Entry, entry, entryWords, words, entries, entryAt, layerEntries, switches, applyEntries, inverseEntries}
 
-pub up+down : (m : ℕ) → up m + down m ≡ m
-up+down m = omega arith
-
 -- a network of m places as the rule builds it
 pub data Sized : ℕ → Network → Type 0 where
   none : {m : ℕ} → m < 2 → Sized m wires

@@ -32,7 +32,8 @@ returns-2 c =
     let r = c .before .before .before .before .before in
     let i = r .before .before .before in
     let a = i .before .before .before .before .before .before .args in
-    apply-settles (a .n) (a .width) (a .blocks .now) (a .bits .now) (a .log .now) (i .before .before .ask .ensures) (i .if1 .left) (c .accept .ensures) (r .run .ensures .0) (r .run .kept .0) (r .run .ensures .1)
+    apply-settles (a .n) (a .width) (a .blocks .now) (a .bits .now) (a .log .now) (i .before .before .ask .ensures) (i .if1 .left)
+    (c .accept .ensures) (r .run .ensures .0) (r .run .kept .0) (r .run .ensures .1)
 
 pub apply-spec : {M : Type 1} → statement M
 apply-spec =

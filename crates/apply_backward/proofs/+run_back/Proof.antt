@@ -1,271 +1,391 @@
 -- The proof of the cycle of calls {run_back}. The measure is the number of places.
 -- Assumes nothing.
 use native.Mathlib.Omega.{arith}
+use borrow.Author.Needs.{needs}
 use native.Mathlib.Nat.{le-refl}
-use mathlib.Core.Path.{_≡_, refl, sym, ap, _∙_}
-use mathlib.Core.List.{_++_}
-use Prim.Native.Nat.{_+_, _-_, _*_, _≤_}
-use lib.ListN.{length, take, drop, length-append, length-drop}
-use borrow.Rule.Slice.PartAt.{part-to-end}
+use mathlib.Core.Path.{_≡_, refl, sym, _∙_}
+use mathlib.Core.Bool.{true, false}
+use mathlib.Core.List.{List, _++_}
+use Prim.Native.Nat.{ℕ, _+_, _-_, _*_, _≤_, _<_}
+use lib.ListN.{length, drop}
 use borrow.Rule.Slice.PartMut.{putMid}
 use Rattle.counts.specs.Counts.{W, up}
 use Rattle.network.specs.Network.{down}
+use Rattle.network.proofs.RunBack.{below-reverse}
+use Rattle.wirings.specs.declared.Net.{Net}
+use Rattle.wirings.specs.Nets.{netOf, Spaced, IsHalf}
+use Rattle.wirings.proofs.Halves.{fewer, gap-inside, spaced-as, is-top, is-bottom, bottom-starts}
 use Rattle.apply_layers.specs.Ran.{bitBack}
-use Rattle.apply_layers.proofs.Halves.{Sizes, sizes, lend, Parts, bottom-back}
-use Rattle.apply_layers.proofs.Network.{W-two, nothing-back, pair-back, returned}
-use Prim.Native.Nat.{ℕ, _<_}
+use Rattle.apply_layers.proofs.Network.{Same, W-two, nothing-back, pair-back, returned}
+use Rattle.apply_layers.proofs.Parts.{Room, room-after, fits, front-long, behind-long, front-kept, behind-kept}
+use Rattle.apply_layers.proofs.Lending.{same, same-then, span, Sizes, sizes, inside-all, to-pair, to-layer, to-top, to-bottom}
+use Rattle.apply_layers.proofs.Lending.{below-all, top-inside, top-ran, bottom-ran}
 use borrow.Fn.Kinds.{In}
 use borrow.Fn.PlainCycle.{Measures, is, falls, and}
 use Rattle.apply_backward.proofs.run_back.Reads as run-back
 use Rattle.apply_backward.proofs.run_back.Kinds as run-back-kinds
 use Rattle.apply_backward.proofs.+run_back.Lts-run_back as run-back-lts
 use Rattle.apply_widths.proofs.layer_back.Reads as layer-back-reads
+use Rattle.wirings.proofs.gap.Reads as gap-reads
+use Rattle.wirings.proofs.step.Reads as step-reads
 use Rattle.apply_backward.proofs.+run_back.{statement}
 use Rattle.apply_backward.proofs.+run_back.Tie.{close}
 
 abbrev μ-run-back : Measures 3 run-back-kinds.ps ℕ
-μ-run-back κs a = a .1 .1 .0
+μ-run-back κs a = a .1 .1 .1 .0
 
 abbrev run-back-at : ℕ → In 3 run-back-kinds.ps
 run-back-at t = and 3 run-back-kinds.ps (is 3 run-back-kinds.ps μ-run-back t) run-back.Pre
 
 abbrev run-back-below : ℕ → In 3 run-back-kinds.ps
-run-back-below t =
-    and 3 run-back-kinds.ps (falls 3 run-back-kinds.ps _<_ μ-run-back t) run-back.Pre
+run-back-below t = and 3 run-back-kinds.ps (falls 3 run-back-kinds.ps _<_ μ-run-back t) run-back.Pre
 
--- ---- the places: three places or more, then after each of the four calls
+-- what the calls ask for and promise
+abbrev calls : ℕ → run-back-lts.Claims
+calls t = (
+  step-reads.Asked,
+  step-reads.Learnt,
+  gap-reads.Asked,
+  gap-reads.Learnt,
+  layer-back-reads.Asked,
+  layer-back-reads.Learnt,
+  run-back-below t,
+  run-back.Post,
+)
 
-abbrev E : ℕ → Type 0
-E t = run-back-lts.Else2 (layer-back-reads.Asked, layer-back-reads.Learnt, run-back-below t, run-back.Post) (run-back-at t) run-back.Post
+module _ (t : ℕ) where
+  -- ---- the places: the start, two places or more, the halves known, then after the output switches, the bottom and the top
 
-abbrev L1 : ℕ → Type 0
-L1 t = run-back-lts.After-layer-back2 (layer-back-reads.Asked, layer-back-reads.Learnt, run-back-below t, run-back.Post) (run-back-at t) run-back.Post
+  abbrev G : Type 0
+  G = run-back-lts.Start (calls t) (run-back-at t) run-back.Post
 
-abbrev M1 : ℕ → Type 0
-M1 t = run-back-lts.After-run-back (layer-back-reads.Asked, layer-back-reads.Learnt, run-back-below t, run-back.Post) (run-back-at t) run-back.Post
+  abbrev S : Type 0
+  S = run-back-lts.After-gap (calls t) (run-back-at t) run-back.Post
 
-abbrev M2 : ℕ → Type 0
-M2 t = run-back-lts.After-run-back2 (layer-back-reads.Asked, layer-back-reads.Learnt, run-back-below t, run-back.Post) (run-back-at t) run-back.Post
+  abbrev Q : Type 0
+  Q = run-back-lts.Else2 (calls t) (run-back-at t) run-back.Post
 
-sz : (t : ℕ) (e : E t) → (let a = e .before .before .before .before .before .args in Sizes (a .width) (a .m) (a .o) (a .e) (a .blocks .now) (a .bits .now) (a .log .now))
-sz t e =
-    let s = e .before .before .before .before .before in
-    sizes (e .before .if1 .left) (s .good .1 .1 .1 .1 .0 .0) (s .pre .1)
+  abbrev L : Type 0
+  L = run-back-lts.After-layer-back2 (calls t) (run-back-at t) run-back.Post
 
--- after the output switches
-cut : (t : ℕ) (l : L1 t) → (let a = l .before .before .before .before .before .before .before .before .args in up (a .m) * a .width ≤ length (l .layer-back2 .last .0))
-cut t l = omega (arith, sz t (l .before .before .before), l .layer-back2 .kept .0)
+  abbrev M : Type 0
+  M = run-back-lts.After-run-back (calls t) (run-back-at t) run-back.Post
 
-log1 : (t : ℕ) (l : L1 t) → length (l .layer-back2 .last .1 .1 .1 .1 .1 .1 .0) ≡ length (l .before .before .before .before .before .before .before .before .args .log .now)
-log1 t l = l .layer-back2 .kept .1 .1 .1 .1 .1 .1 .0
+  abbrev N : Type 0
+  N = run-back-lts.After-run-back2 (calls t) (run-back-at t) run-back.Post
 
-lent : (t : ℕ) (l : L1 t) → (let a = l .before .before .before .before .before .before .before .before .args in let b = l .layer-back2 .last .0 in
-    take (length b - up (a .m) * a .width) (drop (up (a .m) * a .width) b) ≡ drop (up (a .m) * a .width) b)
-lent t l = let a = l .before .before .before .before .before .before .before .before .args in part-to-end (l .layer-back2 .last .0) (up (a .m) * a .width)
+  abbrev g-of : S → G
+  g-of s = s .before .before .before .before .before .before
 
-rest : (t : ℕ) (l : L1 t) → (let a = l .before .before .before .before .before .before .before .before .args in length (drop (up (a .m) * a .width) (l .layer-back2 .last .0)) ≡ down (a .m) * a .width)
-rest t l = rw length-drop (omega (arith, sz t (l .before .before .before), l .layer-back2 .kept .0))
+  abbrev s-of : Q → S
+  s-of q = q .before
 
--- after the bottom network: it is back behind the top part
-log2 : (t : ℕ) (m : M1 t) → length (m .run-back .last .1 .1 .1 .1 .1 .0) ≡ length (m .before .before .before .before .before .before .before .before .before .before .before .before .before .before .before .args .log .now)
-log2 t m = m .run-back .kept .1 .1 .1 .1 .1 .0 ∙ log1 t (m .before .before .before .before .before .before .before)
+  abbrev q-of : L → Q
+  q-of l = l .before .before .before
 
-parts : (t : ℕ) (m : M1 t) → (let l = m .before .before .before .before .before .before .before in let a = l .before .before .before .before .before .before .before .before .args in let b = l .layer-back2 .last .0 in
-    Parts (up (a .m) * a .width) (take (up (a .m) * a .width) b) (m .run-back .last .0) (putMid (up (a .m) * a .width) (length b - up (a .m) * a .width) b (m .run-back .last .0)))
-parts t m =
-    let l = m .before .before .before .before .before .before .before in
-    let a = l .before .before .before .before .before .before .before .before .args in
-    bottom-back (l .layer-back2 .last .0) (m .run-back .last .0) (up (a .m) * a .width) (cut t l)
+  abbrev l-of : M → L
+  l-of m = m .before .before .before .before .before .before .before
 
--- after the top network
-topped : (t : ℕ) (n : M2 t) → (let a = n .before .before .before .before .before .before .before .before .before .before .before .before .before .before .before .before .before .before .before .before .before .before .args in length (n .run-back2 .last .0) ≡ up (a .m) * a .width)
-topped t n = let p = parts t (n .before .before .before .before .before .before .before) in n .run-back2 .kept .0 ∙ ap length (p .front) ∙ p .long
+  abbrev m-of : N → M
+  m-of n = n .before .before .before .before .before .before .before
 
-log3 : (t : ℕ) (n : M2 t) → length (n .run-back2 .last .1 .1 .1 .1 .1 .0) ≡ length (n .before .before .before .before .before .before .before .before .before .before .before .before .before .before .before .before .before .before .before .before .before .before .args .log .now)
-log3 t n = n .run-back2 .kept .1 .1 .1 .1 .1 .0 ∙ log2 t (n .before .before .before .before .before .before .before)
+  abbrev net : S → Net
+  net s = let a = g-of s .args in netOf (a .t) (a .o) (a .m) (a .apart)
 
-back : (t : ℕ) (n : M2 t) → (let m = n .before .before .before .before .before .before .before in let l = m .before .before .before .before .before .before .before in let a = l .before .before .before .before .before .before .before .before .args in let b = l .layer-back2 .last .0 in
-    n .run-back2 .last .0 ++ drop (up (a .m) * a .width) (putMid (up (a .m) * a .width) (length b - up (a .m) * a .width) b (m .run-back .last .0))
-    ≡ n .run-back2 .last .0 ++ m .run-back .last .0)
-back t n = ap (λ y. n .run-back2 .last .0 ++ y) (parts t (n .before .before .before .before .before .before .before) .behind)
+  abbrev step : S → ℕ
+  step s = s .before .step .result
 
-whole : (t : ℕ) (n : M2 t) → (let m = n .before .before .before .before .before .before .before in length (n .run-back2 .last .0 ++ m .run-back .last .0) ≡ length (m .before .before .before .before .before .before .before .before .before .before .before .before .before .before .before .args .blocks .now))
-whole t n =
-    let m = n .before .before .before .before .before .before .before in
-    let l = m .before .before .before .before .before .before .before in
-    let bottom = m .run-back .kept .0 ∙ ap length (lent t l) ∙ rest t l in
-    rw length-append (omega (arith, topped t n, bottom, sz t (l .before .before .before)))
+  abbrev gap : S → ℕ
+  gap s = s .gap .result
 
-run-back-returns : (t : ℕ) → run-back-lts.Need-returns (layer-back-reads.Asked, layer-back-reads.Learnt, run-back-below t, run-back.Post) (run-back-at t) run-back.Post
-run-back-returns t c =
-    let s = c .before .before .before .before in
-    nothing-back (s .args .width) (s .args .m) (s .args .o) (s .args .e) (bitBack (s .args .bits .now)) (s .args .blocks .now) (s .args .log .now) (c .if1 .taken)
+  two : (s : S) → 2 ≤ g-of s .args .m
+  two s = s .before .before .if1 .left
 
-run-back-layer-back-requires : (t : ℕ) → run-back-lts.Need-layer-back-requires (layer-back-reads.Asked, layer-back-reads.Learnt, run-back-below t, run-back.Post) (run-back-at t) run-back.Post
-run-back-layer-back-requires t c κs =
-    let s = c .before .before .before .before .before .before .before in
-    let a = s .args in
-    let one = W-two (a .m) (c .before .before .if2 .taken) in
-    (lend (s .pre .1) (a .m) (a .o) (a .e) 1 (a .blocks .now) (a .log .now) (omega arith) (sym (s .pre .1 .whole)) (omega arith) refl, omega arith)
+  -- the distances, and so the halves
+  sp : (s : S) → Spaced (net s) (step s) (gap s)
+  sp s = spaced-as (net s) (step s) (gap s) (two s) (g-of s .pre .1 .1 .apart) (s .before .step .ensures) (s .gap .ensures)
 
-run-back-add-result : (t : ℕ) → run-back-lts.Need-add-result (layer-back-reads.Asked, layer-back-reads.Learnt, run-back-below t, run-back.Post) (run-back-at t) run-back.Post
-run-back-add-result t c =
-    let l = c .before .before .before .before in
-    let s = l .before .before .before .before .before .before .before .before in
-    omega (arith, s .pre .1 .enough, W-two (s .args .m) (l .before .before .before .if2 .taken), s .good .1 .1 .1 .1 .0 .0)
+  upper : (s : S) → IsHalf (net s) false (netOf (g-of s .args .t) (g-of s .args .o) (up (g-of s .args .m)) (step s))
+  upper s = is-top (net s) (step s) (gap s) (sp s)
 
-run-back-same-length : (t : ℕ) → run-back-lts.Need-same-length (layer-back-reads.Asked, layer-back-reads.Learnt, run-back-below t, run-back.Post) (run-back-at t) run-back.Post
-run-back-same-length t c = c .before .before .before .before .layer-back .kept .0
+  lower : (s : S) → IsHalf (net s) true (netOf (g-of s .args .t) (g-of s .args .o + gap s) (down (g-of s .args .m)) (step s))
+  lower s = is-bottom (net s) (step s) (gap s) (sp s)
 
-run-back-same-length-2 : (t : ℕ) → run-back-lts.Need-same-length-2 (layer-back-reads.Asked, layer-back-reads.Learnt, run-back-below t, run-back.Post) (run-back-at t) run-back.Post
-run-back-same-length-2 t c = c .before .before .before .before .layer-back .kept .1 .1 .1 .1 .1 .1 .0
+  sz : (s : S) → (let a = g-of s .args in
+      Sizes (a .width) (a .m) (step s) (gap s) (a .e) (a .blocks .now) (a .bits .now) (a .log .now))
+  sz s =
+      let g = g-of s in
+      sizes (g .pre .1 .0) (g .pre .1 .1) (sp s) (two s) (g .good .1 .1 .1 .1 .1 .1 .0 .0)
 
-run-back-returns-2 : (t : ℕ) → run-back-lts.Need-returns-2 (layer-back-reads.Asked, layer-back-reads.Learnt, run-back-below t, run-back.Post) (run-back-at t) run-back.Post
-run-back-returns-2 t c =
-    let l = c .before .before .before .before in
-    let a = l .before .before .before .before .before .before .before .before .args in
-    pair-back (a .width) (a .o) (a .e) (bitBack (a .bits .now)) (a .m) (l .before .before .before .if2 .taken) (l .layer-back .ensures)
+  more : (q : Q) → 2 < g-of (s-of q) .args .m
+  more q = omega (arith, sz (s-of q) .two, q .if2 .left)
 
-run-back-add-k : (t : ℕ) → run-back-lts.Need-add-k (layer-back-reads.Asked, layer-back-reads.Learnt, run-back-below t, run-back.Post) (run-back-at t) run-back.Post
-run-back-add-k t c = omega (arith, sz t c)
+  -- where the parts end and begin, and the blocks after each call
+  abbrev end : Q → ℕ
+  end q = let a = g-of (s-of q) .args in span (a .m) (step (s-of q)) * a .width
 
-run-back-sub-h : (t : ℕ) → run-back-lts.Need-sub-h (layer-back-reads.Asked, layer-back-reads.Learnt, run-back-below t, run-back.Post) (run-back-at t) run-back.Post
-run-back-sub-h t c = omega (arith, sz t c)
+  abbrev cut : Q → ℕ
+  cut q = gap (s-of q) * g-of (s-of q) .args .width
 
-run-back-mul-cut : (t : ℕ) → run-back-lts.Need-mul-cut (layer-back-reads.Asked, layer-back-reads.Learnt, run-back-below t, run-back.Post) (run-back-at t) run-back.Post
-run-back-mul-cut t c = omega (arith, sz t c)
+  abbrev b1 : L → List ℕ
+  b1 l = l .layer-back2 .last .0
 
-run-back-layer-back-requires-2 : (t : ℕ) → run-back-lts.Need-layer-back-requires-2 (layer-back-reads.Asked, layer-back-reads.Learnt, run-back-below t, run-back.Post) (run-back-at t) run-back.Post
-run-back-layer-back-requires-2 t c κs =
-    let e = c .before .before in
-    let s = e .before .before .before .before .before in
-    let a = s .args in
-    let z = sz t e in
-    (lend (s .pre .1) (a .m) (a .o) (a .e) (down (a .m)) (a .blocks .now) (a .log .now) (omega arith) (sym (s .pre .1 .whole)) (omega arith) refl, omega arith)
+  abbrev b2 : M → List ℕ
+  b2 m = putMid (cut (q-of (l-of m))) (length (b1 (l-of m)) - cut (q-of (l-of m))) (b1 (l-of m)) (m .run-back .last .0)
 
-run-back-sub-run-back : (t : ℕ) → run-back-lts.Need-sub-run-back (layer-back-reads.Asked, layer-back-reads.Learnt, run-back-below t, run-back.Post) (run-back-at t) run-back.Post
-run-back-sub-run-back t c = cut t (c .before .before .before .before)
+  abbrev b3 : N → List ℕ
+  b3 n = (n .run-back2 .last .0) ++ drop (end (q-of (l-of (m-of n)))) (b2 (m-of n))
 
-run-back-part-run-back-start : (t : ℕ) → run-back-lts.Need-part-run-back-start (layer-back-reads.Asked, layer-back-reads.Learnt, run-back-below t, run-back.Post) (run-back-at t) run-back.Post
-run-back-part-run-back-start t c = cut t (c .before .before .before .before)
+  kept1 : (l : L) → (let a = g-of (s-of (q-of l)) .args in Same (a .blocks .now) (a .log .now) (b1 l)
+      (l .layer-back2 .last .1 .1 .1 .1 .1 .1 .1 .0))
+  kept1 l = record { blocks = l .layer-back2 .kept .0; log = l .layer-back2 .kept .1 .1 .1 .1 .1 .1 .1 .0 }
 
-run-back-part-run-back-end : (t : ℕ) → run-back-lts.Need-part-run-back-end (layer-back-reads.Asked, layer-back-reads.Learnt, run-back-below t, run-back.Post) (run-back-at t) run-back.Post
-run-back-part-run-back-end t c = le-refl _
+  room1 : (l : L) → (let s = s-of (q-of l) in let a = g-of s .args in Room (a .width) (gap s) (b1 l))
+  room1 l = room-after (sz (s-of (q-of l)) .bottom) (b1 l) (kept1 l .blocks)
 
-run-back-add-run-back : (t : ℕ) → run-back-lts.Need-add-run-back (layer-back-reads.Asked, layer-back-reads.Learnt, run-back-below t, run-back.Post) (run-back-at t) run-back.Post
-run-back-add-run-back t c = omega (arith, sz t (c .before .before .before .before .before .before .before .before))
+  kept2 : (m : M) → (let l = l-of m in Same (b1 l) (l .layer-back2 .last .1 .1 .1 .1 .1 .1 .1 .0) (b2 m)
+      (m .run-back .last .1 .1 .1 .1 .1 .1 .1 .0))
+  kept2 m = record {
+    blocks = behind-kept (room1 (l-of m)) (m .run-back .last .0) (m .run-back .kept .0);
+    log =
+        m .run-back .kept .1 .1 .1 .1 .1 .1 .1 .0;
+  }
 
-run-back-add-run-back-2 : (t : ℕ) → run-back-lts.Need-add-run-back-2 (layer-back-reads.Asked, layer-back-reads.Learnt, run-back-below t, run-back.Post) (run-back-at t) run-back.Post
-run-back-add-run-back-2 t c = omega (arith, sz t (c .before .before .before .before .before .before .before .before .before))
+  room2 : (m : M) → (let s = s-of (q-of (l-of m)) in let a = g-of s .args in Room (a .width) (span (a .m) (step s)) (b2 m))
+  room2 m = let l = l-of m in room-after (sz (s-of (q-of l)) .top) (b2 m) (same-then (kept1 l) (kept2 m) .blocks)
 
-run-back-run-back-requires : (t : ℕ) → run-back-lts.Need-run-back-requires (layer-back-reads.Asked, layer-back-reads.Learnt, run-back-below t, run-back.Post) (run-back-at t) run-back.Post
-run-back-run-back-requires t c κs =
-    let l = c .before .before .before .before .before .before in
-    let z = sz t (l .before .before .before) in
-    let s = l .before .before .before .before .before .before .before .before in
-    let a = s .args in
-    let b = l .layer-back2 .last .0 in
-    (omega (arith, s .pre .0), lend (s .pre .1) (down (a .m)) (a .o + up (a .m)) (a .e + down (a .m)) (W (down (a .m))) (take (length b - up (a .m) * a .width) (drop (up (a .m) * a .width) b)) (l .layer-back2 .last .1 .1 .1 .1 .1 .1 .0) (omega arith) (ap length (lent t l) ∙ rest t l) (omega arith) (log1 t l))
+  kept3 : (n : N) → (let m = m-of n in Same (b2 m) (m .run-back .last .1 .1 .1 .1 .1 .1 .1 .0) (b3 n)
+      (n .run-back2 .last .1 .1 .1 .1 .1 .1 .1 .0))
+  kept3 n = record {
+    blocks = front-kept (room2 (m-of n)) (n .run-back2 .last .0) (n .run-back2 .kept .0);
+    log =
+        n .run-back2 .kept .1 .1 .1 .1 .1 .1 .1 .0;
+  }
 
-run-back-slice-relend-prefix-run-back : (t : ℕ) → run-back-lts.Need-slice-relend-prefix-run-back (layer-back-reads.Asked, layer-back-reads.Learnt, run-back-below t, run-back.Post) (run-back-at t) run-back.Post
-run-back-slice-relend-prefix-run-back t c = parts t (c .before .before .before .before) .within
+  kept : (n : N) → (let a = g-of (s-of (q-of (l-of (m-of n)))) .args in Same (a .blocks .now) (a .log .now) (b3 n)
+      (n .run-back2 .last .1 .1 .1 .1 .1 .1 .1 .0))
+  kept n = let m = m-of n in same-then (same-then (kept1 (l-of m)) (kept2 m)) (kept3 n)
 
-run-back-slice-aggregate-run-back : (t : ℕ) → run-back-lts.Need-slice-aggregate-run-back (layer-back-reads.Asked, layer-back-reads.Learnt, run-back-below t, run-back.Post) (run-back-at t) run-back.Post
-run-back-slice-aggregate-run-back t c =
-    let p = parts t (c .before .before .before .before .before) in
-    sym (ap length (p .front) ∙ p .long)
+  -- how far the entries are after each half
+  far1 : (m : M) → (let a = g-of (s-of (q-of (l-of m))) .args in m .run-back .result ≡ a .e + (down (a .m)) + W (down (a .m)))
+  far1 m = m .run-back .ensures .0
 
-run-back-run-back-requires-2 : (t : ℕ) → run-back-lts.Need-run-back-requires-2 (layer-back-reads.Asked, layer-back-reads.Learnt, run-back-below t, run-back.Post) (run-back-at t) run-back.Post
-run-back-run-back-requires-2 t c κs =
-    let m = c .before .before .before .before .before .before in
-    let l = m .before .before .before .before .before .before .before in
-    let z = sz t (l .before .before .before) in
-    let s = l .before .before .before .before .before .before .before .before in
-    let a = s .args in
-    let b = l .layer-back2 .last .0 in
-    let p = parts t m in
-    let r : m .run-back .result ≡ a .e + down (a .m) + W (down (a .m)) = m .run-back .ensures .0 in
-    (omega (arith, s .pre .0), lend (s .pre .1) (up (a .m)) (a .o) (m .run-back .result) (W (up (a .m))) (take (up (a .m) * a .width) (putMid (up (a .m) * a .width) (length b - up (a .m) * a .width) b (m .run-back .last .0))) (m .run-back .last .1 .1 .1 .1 .1 .0) (omega arith) (ap length (p .front) ∙ p .long) (omega (arith, z, r)) (log2 t m))
+  far2 : (n : N) → n .run-back2 .result ≡ m-of n .run-back .result + W (up (g-of (s-of (q-of (l-of (m-of n)))) .args .m))
+  far2 n = n .run-back2 .ensures .0
 
-run-back-sub-inputs : (t : ℕ) → run-back-lts.Need-sub-inputs (layer-back-reads.Asked, layer-back-reads.Learnt, run-back-below t, run-back.Post) (run-back-at t) run-back.Post
-run-back-sub-inputs t c =
-    omega (arith, sz t (c .before .before .before .before .before .before .before .before .before .before .before .before .before .before .before .before .before .before .before .before .before))
+  -- ---- the needs
 
-run-back-layer-back-requires-3 : (t : ℕ) → run-back-lts.Need-layer-back-requires-3 (layer-back-reads.Asked, layer-back-reads.Learnt, run-back-below t, run-back.Post) (run-back-at t) run-back.Post
-run-back-layer-back-requires-3 t c κs =
-    let n = c .before .before .before .before .before .before in
-    let m = n .before .before .before .before .before .before .before in
-    let l = m .before .before .before .before .before .before .before in
-    let z = sz t (l .before .before .before) in
-    let s = l .before .before .before .before .before .before .before .before in
-    let a = s .args in
-    let b = l .layer-back2 .last .0 in
-    let r : m .run-back .result ≡ a .e + down (a .m) + W (down (a .m)) = m .run-back .ensures .0 in
-    let r2 : n .run-back2 .result ≡ m .run-back .result + W (up (a .m)) = n .run-back2 .ensures .0 in
-    (lend (s .pre .1) (a .m) (a .o) (n .run-back2 .result) (up (a .m) - 1) (n .run-back2 .last .0 ++ drop (up (a .m) * a .width) (putMid (up (a .m) * a .width) (length b - up (a .m) * a .width) b (m .run-back .last .0))) (n .run-back2 .last .1 .1 .1 .1 .1 .0) (omega arith) (ap length (back t n) ∙ whole t n ∙ sym (s .pre .1 .whole)) (omega (arith, z, r, r2)) (log3 t n), omega arith)
+  run-back-returns : run-back-lts.Need-returns (calls t) (run-back-at t) run-back.Post
+  run-back-returns c =
+      let a = c .before .before .before .before .args in
+      nothing-back (netOf (a .t) (a .o) (a .m) (a .apart)) (a .width) (a .o) (a .e) (bitBack (a .bits .now)) (a .blocks .now)
+      (a .log .now) (c .if1 .taken)
 
-run-back-add-result-2 : (t : ℕ) → run-back-lts.Need-add-result-2 (layer-back-reads.Asked, layer-back-reads.Learnt, run-back-below t, run-back.Post) (run-back-at t) run-back.Post
-run-back-add-result-2 t c =
-    let n = c .before .before .before .before .before .before .before .before .before .before .before in
-    let m = n .before .before .before .before .before .before .before in
-    let l = m .before .before .before .before .before .before .before in
-    let a = l .before .before .before .before .before .before .before .before .args in
-    let r : m .run-back .result ≡ a .e + down (a .m) + W (down (a .m)) = m .run-back .ensures .0 in
-    let r2 : n .run-back2 .result ≡ m .run-back .result + W (up (a .m)) = n .run-back2 .ensures .0 in
-    omega (arith, sz t (l .before .before .before), r, r2)
+  run-back-add-k : run-back-lts.Need-add-k (calls t) (run-back-at t) run-back.Post
+  run-back-add-k c =
+      let p = c .before .before .before .before .pre .1 in
+      omega (arith, fewer (inside-all (p .0) (p .1)) (omega (arith, c .if1 .left)))
 
-run-back-same-length-3 : (t : ℕ) → run-back-lts.Need-same-length-3 (layer-back-reads.Asked, layer-back-reads.Learnt, run-back-below t, run-back.Post) (run-back-at t) run-back.Post
-run-back-same-length-3 t c =
-    let n = c .before .before .before .before .before .before .before .before .before .before .before in
-    c .before .before .before .before .layer-back3 .kept .0 ∙ ap length (back t n) ∙ whole t n
+  run-back-step-requires : run-back-lts.Need-step-requires (calls t) (run-back-at t) run-back.Post
+  run-back-step-requires c κs = search needs
 
-run-back-same-length-4 : (t : ℕ) → run-back-lts.Need-same-length-4 (layer-back-reads.Asked, layer-back-reads.Learnt, run-back-below t, run-back.Post) (run-back-at t) run-back.Post
-run-back-same-length-4 t c =
-    let n = c .before .before .before .before .before .before .before .before .before .before .before in
-    c .before .before .before .before .layer-back3 .kept .1 .1 .1 .1 .1 .1 .0 ∙ log3 t n
+  run-back-gap-requires : run-back-lts.Need-gap-requires (calls t) (run-back-at t) run-back.Post
+  run-back-gap-requires c κs =
+      let p = c .before .before .before .before .before .pre .1 in
+      omega (arith, gap-inside (inside-all (p .0) (p .1)) (c .before .if1 .left))
 
-run-back-returns-3 : (t : ℕ) → run-back-lts.Need-returns-3 (layer-back-reads.Asked, layer-back-reads.Learnt, run-back-below t, run-back.Post) (run-back-at t) run-back.Post
-run-back-returns-3 t c =
-    let f = c .before .before .before .before in
-    let n = f .before .before .before .before .before .before .before in
-    let m = n .before .before .before .before .before .before .before in
-    let l = m .before .before .before .before .before .before .before in
-    let z = sz t (l .before .before .before) in
-    let a = l .before .before .before .before .before .before .before .before .args in
-    let r : m .run-back .result ≡ a .e + down (a .m) + W (down (a .m)) = m .run-back .ensures .0 in
-    let r2 : n .run-back2 .result ≡ m .run-back .result + W (up (a .m)) = n .run-back2 .ensures .0 in
-    let bottom = rw (lent t l) at (m .run-back .ensures .1) in
-    let top = rw (parts t m .front) at (n .run-back2 .ensures .1) in
-    let inputs = rw (back t n) at (f .layer-back3 .ensures) in (
-      omega (arith, z, r, r2),
-      returned (a .m) (z .two) (a .width) (bitBack (a .bits .now)) (a .o) (n .run-back2 .last .0) (m .run-back .last .0) (cut t l) (topped t n)
-          (omega (arith, z, r, r2)) (log1 t l) (log2 t m) refl r r2 (l .layer-back2 .ensures) bottom top inputs,
-    )
+  run-back-layer-back-requires : run-back-lts.Need-layer-back-requires (calls t) (run-back-at t) run-back.Post
+  run-back-layer-back-requires c κs =
+      let s = c .before .before .before in
+      let p = g-of s .pre .1 in
+      let a = g-of s .args in
+      to-pair (p .0) (p .1) (sp s) (two s) (a .e) (same (a .blocks .now) (a .log .now))
+      (omega (arith, W-two (a .m) (c .before .before .if2 .taken)))
+
+  run-back-add-result : run-back-lts.Need-add-result (calls t) (run-back-at t) run-back.Post
+  run-back-add-result c =
+      let l = c .before .before .before .before in
+      let g = l .before .before .before .before .before .before .before .before .before .before in
+      omega (arith, g .pre .1 .0 .enough, W-two (g .args .m) (l .before .before .before .if2 .taken), g .good .1 .1 .1 .1 .1 .1 .0 .0)
+
+  run-back-same-length : run-back-lts.Need-same-length (calls t) (run-back-at t) run-back.Post
+  run-back-same-length c = c .before .before .before .before .layer-back .kept .0
+
+  run-back-same-length-2 : run-back-lts.Need-same-length-2 (calls t) (run-back-at t) run-back.Post
+  run-back-same-length-2 c = c .before .before .before .before .layer-back .kept .1 .1 .1 .1 .1 .1 .1 .0
+
+  run-back-returns-2 : run-back-lts.Need-returns-2 (calls t) (run-back-at t) run-back.Post
+  run-back-returns-2 c =
+      let l = c .before .before .before .before in
+      let s = l .before .before .before .before in
+      let a = g-of s .args in
+      pair-back (sp s) (a .width) (a .o) (a .e) (bitBack (a .bits .now)) (l .before .before .before .if2 .taken)
+      (l .layer-back .ensures)
+
+  run-back-sub-h : run-back-lts.Need-sub-h (calls t) (run-back-at t) run-back.Post
+  run-back-sub-h c = omega (arith, sz (c .before) .two)
+
+  run-back-sub-inputs : run-back-lts.Need-sub-inputs (calls t) (run-back-at t) run-back.Post
+  run-back-sub-inputs c = omega (arith, sz (c .before) .two)
+
+  run-back-mul-end : run-back-lts.Need-mul-end (calls t) (run-back-at t) run-back.Post
+  run-back-mul-end c = omega (arith, sz (c .before) .near)
+
+  run-back-add-end : run-back-lts.Need-add-end (calls t) (run-back-at t) run-back.Post
+  run-back-add-end c = omega (arith, sz (c .before) .near)
+
+  run-back-mul-end-2 : run-back-lts.Need-mul-end-2 (calls t) (run-back-at t) run-back.Post
+  run-back-mul-end-2 c = omega (arith, fits (sz (c .before) .top))
+
+  run-back-mul-cut : run-back-lts.Need-mul-cut (calls t) (run-back-at t) run-back.Post
+  run-back-mul-cut c = omega (arith, fits (sz (c .before) .bottom))
+
+  run-back-add-at : run-back-lts.Need-add-at (calls t) (run-back-at t) run-back.Post
+  run-back-add-at c =
+      let s = c .before in
+      let p = g-of s .pre .1 in
+      omega (arith, bottom-starts (net s) (step s) (gap s) (sp s) (inside-all (p .0) (p .1)) (two s))
+
+  run-back-layer-back-requires-2 : run-back-lts.Need-layer-back-requires-2 (calls t) (run-back-at t) run-back.Post
+  run-back-layer-back-requires-2 c κs =
+      let q = c .before .before in
+      let s = s-of q in
+      let p = g-of s .pre .1 in
+      let a = g-of s .args in
+      let z = sz s in
+      to-layer (p .0) (p .1) (sp s) (z .two) (a .e) (same (a .blocks .now) (a .log .now)) (more q) (down (a .m))
+      (omega (arith, z .two)) (omega (arith, z .count))
+
+  run-back-sub-run-back : run-back-lts.Need-sub-run-back (calls t) (run-back-at t) run-back.Post
+  run-back-sub-run-back c = fits (room1 (c .before .before .before .before))
+
+  run-back-part-run-back-start : run-back-lts.Need-part-run-back-start (calls t) (run-back-at t) run-back.Post
+  run-back-part-run-back-start c = fits (room1 (c .before .before .before .before))
+
+  run-back-part-run-back-end : run-back-lts.Need-part-run-back-end (calls t) (run-back-at t) run-back.Post
+  run-back-part-run-back-end c = le-refl _
+
+  run-back-add-run-back : run-back-lts.Need-add-run-back (calls t) (run-back-at t) run-back.Post
+  run-back-add-run-back c =
+      let at6 = c .before .before .before .before .before .before in
+      let z = sz (s-of (q-of (at6))) in omega (arith, z .count, z .enough, z .short)
+
+  run-back-run-back-requires : run-back-lts.Need-run-back-requires (calls t) (run-back-at t) run-back.Post
+  run-back-run-back-requires c κs =
+      let l = c .before .before .before .before .before .before in
+      let q = q-of l in
+      let s = s-of q in
+      let z = sz s in
+      let p = g-of s .pre in
+      let a = g-of s .args in
+      let h = lower s in (
+        omega (arith, more q, p .0),
+        to-bottom (p .1 .0) (p .1 .1) (sp s) (z .two) (a .e + (down (a .m))) (kept1 l) h _ (behind-long (room1 l))
+            (omega (arith, z .count)),
+      )
+
+  run-back-slice-relend-prefix-run-back : run-back-lts.Need-slice-relend-prefix-run-back (calls t) (run-back-at t) run-back.Post
+  run-back-slice-relend-prefix-run-back c = fits (room2 (c .before .before .before .before))
+
+  run-back-slice-aggregate-run-back : run-back-lts.Need-slice-aggregate-run-back (calls t) (run-back-at t) run-back.Post
+  run-back-slice-aggregate-run-back c = sym (front-long (room2 (c .before .before .before .before .before)))
+
+  run-back-run-back-requires-2 : run-back-lts.Need-run-back-requires-2 (calls t) (run-back-at t) run-back.Post
+  run-back-run-back-requires-2 c κs =
+      let m = c .before .before .before .before .before .before in
+      let l = l-of m in
+      let q = q-of l in
+      let s = s-of q in
+      let z = sz s in
+      let p = g-of s .pre in
+      let h = upper s in (
+        omega (arith, more q, p .0),
+        to-top (p .1 .0) (p .1 .1) (sp s) (z .two) (m .run-back .result) (same-then (kept1 l) (kept2 m)) h _
+            (front-long (room2 m)) (omega (arith, z .count, far1 m)),
+      )
+
+  run-back-layer-back-requires-3 : run-back-lts.Need-layer-back-requires-3 (calls t) (run-back-at t) run-back.Post
+  run-back-layer-back-requires-3 c κs =
+      let n = c .before .before .before .before .before .before in
+      let q = q-of (l-of (m-of n)) in
+      let s = s-of q in
+      let p = g-of s .pre .1 in
+      let a = g-of s .args in
+      let z = sz s in
+      to-layer (p .0) (p .1) (sp s) (z .two) (n .run-back2 .result) (kept n) (more q) (up (a .m) - 1) (omega (arith, z .two))
+      (omega (arith, z .count, far1 (m-of n), far2 n))
+
+  run-back-add-result-2 : run-back-lts.Need-add-result-2 (calls t) (run-back-at t) run-back.Post
+  run-back-add-result-2 c =
+      let n = c .before .before .before .before .before .before .before .before .before .before .before in
+      let z = sz (s-of (q-of (l-of (m-of n)))) in
+      omega (arith, z .count, z .enough, z .short, far1 (m-of n), far2 n)
+
+  run-back-same-length-3 : run-back-lts.Need-same-length-3 (calls t) (run-back-at t) run-back.Post
+  run-back-same-length-3 c =
+      let at4 = c .before .before .before .before in
+      let r = at4 in r .layer-back3 .kept .0 ∙ kept (r .before .before .before .before .before .before .before) .blocks
+
+  run-back-same-length-4 : run-back-lts.Need-same-length-4 (calls t) (run-back-at t) run-back.Post
+  run-back-same-length-4 c =
+      let at4 = c .before .before .before .before in
+      let r = at4 in r .layer-back3 .kept .1 .1 .1 .1 .1 .1 .1 .0 ∙ kept (r .before .before .before .before .before .before .before) .log
+
+  run-back-returns-3 : run-back-lts.Need-returns-3 (calls t) (run-back-at t) run-back.Post
+  run-back-returns-3 c =
+      let r = c .before .before .before .before in
+      let n = r .before .before .before .before .before .before .before in
+      let m = m-of n in
+      let l = l-of m in
+      let q = q-of l in
+      let s = s-of q in
+      let p = g-of s .pre .1 .0 in
+      let I = g-of s .pre .1 .1 in
+      let a = g-of s .args in
+      let z = sz s in
+      let S = sp s in
+      let T = upper s in
+      let U = lower s in
+      let bit = bitBack (a .bits .now) in (
+        omega (arith, z .count, far1 m, far2 n),
+        returned S (z .two) T U (a .width) (a .o) bit (omega (arith, z .count, z .room, far1 m, far2 n)) (kept1 l) (kept2 m)
+            (kept3 n) refl (far1 m) (far2 n) (l .layer-back2 .ensures)
+            (bottom-ran p I S (z .two) bit U (room1 l) (m .run-back .last .0) (m .run-back .ensures .1))
+            (top-ran p I S (z .two) bit T (room2 m) (n .run-back2 .last .0) (n .run-back2 .kept .0)
+            (below-reverse (below-all _ (top-inside p I S (z .two) T)))
+            (n .run-back2 .ensures .1))
+            (r .layer-back3 .ensures),
+      )
 
 pub +run-back-spec : {M : Type 1} → statement M
-+run-back-spec = close μ-run-back λ t. run-back-lts.spec (layer-back-reads.Asked, layer-back-reads.Learnt, run-back-below t, run-back.Post)
++run-back-spec = close μ-run-back λ t. run-back-lts.spec (calls t)
     (run-back-at t)
     run-back.Post
     (run-back-returns t)
+    (run-back-add-k t)
+    (run-back-step-requires t)
+    (run-back-gap-requires t)
     (run-back-layer-back-requires t)
     (run-back-add-result t)
     (run-back-same-length t)
     (run-back-same-length-2 t)
     (run-back-returns-2 t)
-    (run-back-add-k t)
     (run-back-sub-h t)
+    (run-back-sub-inputs t)
+    (run-back-mul-end t)
+    (run-back-add-end t)
+    (run-back-mul-end-2 t)
     (run-back-mul-cut t)
+    (run-back-add-at t)
     (run-back-layer-back-requires-2 t)
     (run-back-sub-run-back t)
     (run-back-part-run-back-start t)
     (run-back-part-run-back-end t)
     (run-back-add-run-back t)
-    (run-back-add-run-back-2 t)
     (run-back-run-back-requires t)
     (run-back-slice-relend-prefix-run-back t)
     (run-back-slice-aggregate-run-back t)
     (run-back-run-back-requires-2 t)
-    (run-back-sub-inputs t)
     (run-back-layer-back-requires-3 t)
     (run-back-add-result-2 t)
     (run-back-same-length-3 t)

@@ -1,30 +1,37 @@
 -- The proof of the cycle of calls {run}. The measure is the number of places.
 -- Assumes nothing.
 use native.Mathlib.Omega.{arith}
+use borrow.Author.Needs.{needs}
 use native.Mathlib.Nat.{le-refl}
-use mathlib.Core.Path.{_≡_, refl, sym, ap, _∙_}
-use mathlib.Core.List.{_++_}
-use Prim.Native.Nat.{_+_, _-_, _*_, _≤_}
-use lib.ListN.{length, take, drop, length-append, length-drop}
-use lib.Seq.{length-take-le}
+use mathlib.Core.Path.{_≡_, refl, sym, _∙_}
+use mathlib.Core.Bool.{true, false}
+use mathlib.Core.List.{List, _++_}
+use Prim.Native.Nat.{ℕ, _+_, _-_, _*_, _≤_, _<_}
+use lib.ListN.{length, drop}
 use borrow.Rule.Slice.PartMut.{putMid}
 use Rattle.counts.specs.Counts.{W, up}
 use Rattle.network.specs.Network.{down}
+use Rattle.wirings.specs.declared.Net.{Net}
+use Rattle.wirings.specs.Nets.{netOf, Spaced, IsHalf}
+use Rattle.wirings.proofs.Halves.{fewer, gap-inside, spaced-as, is-top, is-bottom, bottom-starts}
 use Rattle.apply_layers.specs.Ran.{bitAt}
-use Rattle.apply_layers.proofs.Halves.{Sizes, sizes, lend, rest-lent, rest-back}
-use Rattle.apply_layers.proofs.Network.{W-two, nothing, pair, applied}
-use Prim.Native.Nat.{ℕ, _<_}
+use Rattle.apply_layers.proofs.Network.{Same, W-two, nothing, pair, applied}
+use Rattle.apply_layers.proofs.Parts.{Room, room-after, fits, front-long, behind-long, front-kept, behind-kept}
+use Rattle.apply_layers.proofs.Lending.{same, same-then, span, Sizes, sizes, inside-all, to-pair, to-layer, to-top, to-bottom}
+use Rattle.apply_layers.proofs.Lending.{below-all, top-inside, top-ran, bottom-ran}
 use borrow.Fn.Kinds.{In}
 use borrow.Fn.PlainCycle.{Measures, is, falls, and}
 use Rattle.apply_forward.proofs.run.Reads as run
 use Rattle.apply_forward.proofs.run.Kinds as run-kinds
 use Rattle.apply_forward.proofs.+run.Lts-run as run-lts
 use Rattle.apply_widths.proofs.layer.Reads as layer-reads
+use Rattle.wirings.proofs.gap.Reads as gap-reads
+use Rattle.wirings.proofs.step.Reads as step-reads
 use Rattle.apply_forward.proofs.+run.{statement}
 use Rattle.apply_forward.proofs.+run.Tie.{close}
 
 abbrev μ-run : Measures 3 run-kinds.ps ℕ
-μ-run κs a = a .1 .1 .0
+μ-run κs a = a .1 .1 .1 .0
 
 abbrev run-at : ℕ → In 3 run-kinds.ps
 run-at t = and 3 run-kinds.ps (is 3 run-kinds.ps μ-run t) run.Pre
@@ -32,242 +39,342 @@ run-at t = and 3 run-kinds.ps (is 3 run-kinds.ps μ-run t) run.Pre
 abbrev run-below : ℕ → In 3 run-kinds.ps
 run-below t = and 3 run-kinds.ps (falls 3 run-kinds.ps _<_ μ-run t) run.Pre
 
--- ---- the places: three places or more, then after each of the four calls
+-- what the calls ask for and promise
+abbrev calls : ℕ → run-lts.Claims
+calls t = (
+  step-reads.Asked,
+  step-reads.Learnt,
+  gap-reads.Asked,
+  gap-reads.Learnt,
+  layer-reads.Asked,
+  layer-reads.Learnt,
+  run-below t,
+  run.Post,
+)
 
-abbrev E : ℕ → Type 0
-E t = run-lts.Else2 (layer-reads.Asked, layer-reads.Learnt, run-below t, run.Post) (run-at t) run.Post
+module _ (t : ℕ) where
+  -- ---- the places: the start, two places or more, the halves known, then after the input switches, the top and the bottom
 
-abbrev L1 : ℕ → Type 0
-L1 t = run-lts.After-layer2 (layer-reads.Asked, layer-reads.Learnt, run-below t, run.Post) (run-at t) run.Post
+  abbrev G : Type 0
+  G = run-lts.Start (calls t) (run-at t) run.Post
 
-abbrev M1 : ℕ → Type 0
-M1 t = run-lts.After-run (layer-reads.Asked, layer-reads.Learnt, run-below t, run.Post) (run-at t) run.Post
+  abbrev S : Type 0
+  S = run-lts.After-gap (calls t) (run-at t) run.Post
 
-abbrev M2 : ℕ → Type 0
-M2 t = run-lts.After-run2 (layer-reads.Asked, layer-reads.Learnt, run-below t, run.Post) (run-at t) run.Post
+  abbrev Q : Type 0
+  Q = run-lts.Else2 (calls t) (run-at t) run.Post
 
-sz : (t : ℕ) (e : E t) → (let a = e .before .before .before .before .before .args in Sizes (a .width) (a .m) (a .o) (a .e) (a .blocks .now) (a .bits .now) (a .log .now))
-sz t e =
-    let s = e .before .before .before .before .before in
-    sizes (e .before .if1 .left) (s .good .1 .1 .1 .1 .0 .0) (s .pre .1)
+  abbrev L : Type 0
+  L = run-lts.After-layer2 (calls t) (run-at t) run.Post
 
--- after the input switches
-cut : (t : ℕ) (l : L1 t) → (let a = l .before .before .before .before .before .before .before .before .args in length (take (up (a .m) * a .width) (l .layer2 .last .0)) ≡ up (a .m) * a .width)
-cut t l =
-    let e = l .before .before .before in
-    let a = e .before .before .before .before .before .args in
-    length-take-le (up (a .m) * a .width) (l .layer2 .last .0) (omega (arith, sz t e, l .layer2 .kept .0))
+  abbrev M : Type 0
+  M = run-lts.After-run (calls t) (run-at t) run.Post
 
-log1 : (t : ℕ) (l : L1 t) → length (l .layer2 .last .1 .1 .1 .1 .1 .1 .0) ≡ length (l .before .before .before .before .before .before .before .before .args .log .now)
-log1 t l = l .layer2 .kept .1 .1 .1 .1 .1 .1 .0
+  abbrev N : Type 0
+  N = run-lts.After-run2 (calls t) (run-at t) run.Post
 
-rest : (t : ℕ) (l : L1 t) → (let a = l .before .before .before .before .before .before .before .before .args in length (drop (up (a .m) * a .width) (l .layer2 .last .0)) ≡ down (a .m) * a .width)
-rest t l = rw length-drop (omega (arith, sz t (l .before .before .before), l .layer2 .kept .0))
+  abbrev g-of : S → G
+  g-of s = s .before .before .before .before .before .before
 
--- after the top network
-topped : (t : ℕ) (m : M1 t) → (let a = m .before .before .before .before .before .before .before .before .before .before .before .before .before .before .before .args in length (m .run .last .0) ≡ up (a .m) * a .width)
-topped t m = m .run .kept .0 ∙ cut t (m .before .before .before .before .before .before .before)
+  abbrev s-of : Q → S
+  s-of q = q .before
 
-log2 : (t : ℕ) (m : M1 t) → length (m .run .last .1 .1 .1 .1 .1 .0) ≡ length (m .before .before .before .before .before .before .before .before .before .before .before .before .before .before .before .args .log .now)
-log2 t m = m .run .kept .1 .1 .1 .1 .1 .0 ∙ log1 t (m .before .before .before .before .before .before .before)
+  abbrev q-of : L → Q
+  q-of l = l .before .before .before
 
-from : (t : ℕ) (m : M1 t) → (let l = m .before .before .before .before .before .before .before in let a = l .before .before .before .before .before .before .before .before .args in up (a .m) * a .width ≤ length (m .run .last .0 ++ drop (up (a .m) * a .width) (l .layer2 .last .0)))
-from t m = rw length-append (omega (arith, topped t m))
+  abbrev l-of : M → L
+  l-of m = m .before .before .before .before .before .before .before
 
-lent : (t : ℕ) (m : M1 t) → (let l = m .before .before .before .before .before .before .before in let a = l .before .before .before .before .before .before .before .before .args in
-    let b = m .run .last .0 ++ drop (up (a .m) * a .width) (l .layer2 .last .0) in
-    take (length b - up (a .m) * a .width) (drop (up (a .m) * a .width) b) ≡ drop (up (a .m) * a .width) (l .layer2 .last .0))
-lent t m =
-    let l = m .before .before .before .before .before .before .before in
-    let a = l .before .before .before .before .before .before .before .before .args in
-    rest-lent (m .run .last .0) (l .layer2 .last .0) (up (a .m) * a .width) (topped t m)
+  abbrev m-of : N → M
+  m-of n = n .before .before .before .before .before .before .before
 
--- after the bottom network
-log3 : (t : ℕ) (n : M2 t) → length (n .run2 .last .1 .1 .1 .1 .1 .0) ≡ length (n .before .before .before .before .before .before .before .before .before .before .before .before .before .before .before .before .before .before .before .before .before .before .args .log .now)
-log3 t n = n .run2 .kept .1 .1 .1 .1 .1 .0 ∙ log2 t (n .before .before .before .before .before .before .before)
+  abbrev net : S → Net
+  net s = let a = g-of s .args in netOf (a .t) (a .o) (a .m) (a .apart)
 
-back : (t : ℕ) (n : M2 t) → (let m = n .before .before .before .before .before .before .before in let l = m .before .before .before .before .before .before .before in let a = l .before .before .before .before .before .before .before .before .args in
-    let b = m .run .last .0 ++ drop (up (a .m) * a .width) (l .layer2 .last .0) in
-    putMid (up (a .m) * a .width) (length b - up (a .m) * a .width) b (n .run2 .last .0) ≡ m .run .last .0 ++ n .run2 .last .0)
-back t n =
-    let m = n .before .before .before .before .before .before .before in
-    let l = m .before .before .before .before .before .before .before in
-    let a = l .before .before .before .before .before .before .before .before .args in
-    rest-back (m .run .last .0) (n .run2 .last .0) (l .layer2 .last .0) (up (a .m) * a .width) (topped t m)
+  abbrev step : S → ℕ
+  step s = s .before .step .result
 
-whole : (t : ℕ) (n : M2 t) → (let m = n .before .before .before .before .before .before .before in length (m .run .last .0 ++ n .run2 .last .0) ≡ length (m .before .before .before .before .before .before .before .before .before .before .before .before .before .before .before .args .blocks .now))
-whole t n =
-    let m = n .before .before .before .before .before .before .before in
-    let l = m .before .before .before .before .before .before .before in
-    let bottom = n .run2 .kept .0 ∙ ap length (lent t m) ∙ rest t l in
-    rw length-append (omega (arith, topped t m, bottom, sz t (l .before .before .before)))
+  abbrev gap : S → ℕ
+  gap s = s .gap .result
 
-run-returns : (t : ℕ) → run-lts.Need-returns (layer-reads.Asked, layer-reads.Learnt, run-below t, run.Post) (run-at t) run.Post
-run-returns t c =
-    let s = c .before .before .before .before in
-    nothing (s .args .width) (s .args .m) (s .args .o) (s .args .e) (bitAt (s .args .bits .now)) (s .args .blocks .now) (s .args .log .now) (c .if1 .taken)
+  two : (s : S) → 2 ≤ g-of s .args .m
+  two s = s .before .before .if1 .left
 
-run-layer-requires : (t : ℕ) → run-lts.Need-layer-requires (layer-reads.Asked, layer-reads.Learnt, run-below t, run.Post) (run-at t) run.Post
-run-layer-requires t c κs =
-    let s = c .before .before .before .before .before .before .before in
-    let a = s .args in
-    let one = W-two (a .m) (c .before .before .if2 .taken) in
-    (lend (s .pre .1) (a .m) (a .o) (a .e) 1 (a .blocks .now) (a .log .now) (omega arith) (sym (s .pre .1 .whole)) (omega arith) refl, omega arith)
+  -- the distances, and so the halves
+  sp : (s : S) → Spaced (net s) (step s) (gap s)
+  sp s = spaced-as (net s) (step s) (gap s) (two s) (g-of s .pre .1 .1 .apart) (s .before .step .ensures) (s .gap .ensures)
 
-run-add-result : (t : ℕ) → run-lts.Need-add-result (layer-reads.Asked, layer-reads.Learnt, run-below t, run.Post) (run-at t) run.Post
-run-add-result t c =
-    let l = c .before .before .before .before in
-    let s = l .before .before .before .before .before .before .before .before in
-    omega (arith, s .pre .1 .enough, W-two (s .args .m) (l .before .before .before .if2 .taken), s .good .1 .1 .1 .1 .0 .0)
+  upper : (s : S) → IsHalf (net s) false (netOf (g-of s .args .t) (g-of s .args .o) (up (g-of s .args .m)) (step s))
+  upper s = is-top (net s) (step s) (gap s) (sp s)
 
-run-same-length : (t : ℕ) → run-lts.Need-same-length (layer-reads.Asked, layer-reads.Learnt, run-below t, run.Post) (run-at t) run.Post
-run-same-length t c = c .before .before .before .before .layer .kept .0
+  lower : (s : S) → IsHalf (net s) true (netOf (g-of s .args .t) (g-of s .args .o + gap s) (down (g-of s .args .m)) (step s))
+  lower s = is-bottom (net s) (step s) (gap s) (sp s)
 
-run-same-length-2 : (t : ℕ) → run-lts.Need-same-length-2 (layer-reads.Asked, layer-reads.Learnt, run-below t, run.Post) (run-at t) run.Post
-run-same-length-2 t c = c .before .before .before .before .layer .kept .1 .1 .1 .1 .1 .1 .0
+  sz : (s : S) → (let a = g-of s .args in
+      Sizes (a .width) (a .m) (step s) (gap s) (a .e) (a .blocks .now) (a .bits .now) (a .log .now))
+  sz s =
+      let g = g-of s in
+      sizes (g .pre .1 .0) (g .pre .1 .1) (sp s) (two s) (g .good .1 .1 .1 .1 .1 .1 .0 .0)
 
-run-returns-2 : (t : ℕ) → run-lts.Need-returns-2 (layer-reads.Asked, layer-reads.Learnt, run-below t, run.Post) (run-at t) run.Post
-run-returns-2 t c =
-    let l = c .before .before .before .before in
-    let a = l .before .before .before .before .before .before .before .before .args in
-    pair (a .width) (a .o) (a .e) (bitAt (a .bits .now)) (a .m) (l .before .before .before .if2 .taken) (l .layer .ensures)
+  more : (q : Q) → 2 < g-of (s-of q) .args .m
+  more q = omega (arith, sz (s-of q) .two, q .if2 .left)
 
-run-add-k : (t : ℕ) → run-lts.Need-add-k (layer-reads.Asked, layer-reads.Learnt, run-below t, run.Post) (run-at t) run.Post
-run-add-k t c = omega (arith, sz t c)
+  -- where the parts end and begin, and the blocks after each call
+  abbrev end : Q → ℕ
+  end q = let a = g-of (s-of q) .args in span (a .m) (step (s-of q)) * a .width
 
-run-sub-h : (t : ℕ) → run-lts.Need-sub-h (layer-reads.Asked, layer-reads.Learnt, run-below t, run.Post) (run-at t) run.Post
-run-sub-h t c = omega (arith, sz t c)
+  abbrev cut : Q → ℕ
+  cut q = gap (s-of q) * g-of (s-of q) .args .width
 
-run-mul-cut : (t : ℕ) → run-lts.Need-mul-cut (layer-reads.Asked, layer-reads.Learnt, run-below t, run.Post) (run-at t) run.Post
-run-mul-cut t c = omega (arith, sz t c)
+  abbrev b1 : L → List ℕ
+  b1 l = l .layer2 .last .0
 
-run-sub-inputs : (t : ℕ) → run-lts.Need-sub-inputs (layer-reads.Asked, layer-reads.Learnt, run-below t, run.Post) (run-at t) run.Post
-run-sub-inputs t c = omega (arith, sz t c)
+  abbrev b2 : M → List ℕ
+  b2 m = (m .run .last .0) ++ drop (end (q-of (l-of m))) (b1 (l-of m))
 
-run-layer-requires-2 : (t : ℕ) → run-lts.Need-layer-requires-2 (layer-reads.Asked, layer-reads.Learnt, run-below t, run.Post) (run-at t) run.Post
-run-layer-requires-2 t c κs =
-    let e = c .before .before in
-    let s = e .before .before .before .before .before in
-    let a = s .args in
-    let z = sz t e in
-    (lend (s .pre .1) (a .m) (a .o) (a .e) (up (a .m) - 1) (a .blocks .now) (a .log .now) (omega arith) (sym (s .pre .1 .whole)) (omega arith) refl, omega arith)
+  abbrev b3 : N → List ℕ
+  b3 n = putMid (cut (q-of (l-of (m-of n)))) (length (b2 (m-of n)) - cut (q-of (l-of (m-of n)))) (b2 (m-of n)) (n .run2 .last .0)
 
-run-slice-relend-prefix-run : (t : ℕ) → run-lts.Need-slice-relend-prefix-run (layer-reads.Asked, layer-reads.Learnt, run-below t, run.Post) (run-at t) run.Post
-run-slice-relend-prefix-run t c =
-    let l = c .before .before .before .before in
-    omega (arith, sz t (l .before .before .before), l .layer2 .kept .0)
+  kept1 : (l : L) → (let a = g-of (s-of (q-of l)) .args in Same (a .blocks .now) (a .log .now) (b1 l)
+      (l .layer2 .last .1 .1 .1 .1 .1 .1 .1 .0))
+  kept1 l = record { blocks = l .layer2 .kept .0; log = l .layer2 .kept .1 .1 .1 .1 .1 .1 .1 .0 }
 
-run-slice-aggregate-run : (t : ℕ) → run-lts.Need-slice-aggregate-run (layer-reads.Asked, layer-reads.Learnt, run-below t, run.Post) (run-at t) run.Post
-run-slice-aggregate-run t c = sym (cut t (c .before .before .before .before .before))
+  room1 : (l : L) → (let s = s-of (q-of l) in let a = g-of s .args in Room (a .width) (span (a .m) (step s)) (b1 l))
+  room1 l = room-after (sz (s-of (q-of l)) .top) (b1 l) (kept1 l .blocks)
 
-run-add-run : (t : ℕ) → run-lts.Need-add-run (layer-reads.Asked, layer-reads.Learnt, run-below t, run.Post) (run-at t) run.Post
-run-add-run t c = omega (arith, sz t (c .before .before .before .before .before .before .before .before .before))
+  kept2 : (m : M) → (let l = l-of m in Same (b1 l) (l .layer2 .last .1 .1 .1 .1 .1 .1 .1 .0) (b2 m) (m .run .last .1 .1 .1 .1 .1 .1 .1 .0))
+  kept2 m = record { blocks = front-kept (room1 (l-of m)) (m .run .last .0) (m .run .kept .0); log = m .run .kept .1 .1 .1 .1 .1 .1 .1 .0 }
 
-run-run-requires : (t : ℕ) → run-lts.Need-run-requires (layer-reads.Asked, layer-reads.Learnt, run-below t, run.Post) (run-at t) run.Post
-run-run-requires t c κs =
-    let l = c .before .before .before .before .before .before in
-    let z = sz t (l .before .before .before) in
-    let s = l .before .before .before .before .before .before .before .before in
-    let a = s .args in
-    (omega arith, lend (s .pre .1) (up (a .m)) (a .o) (a .e + (up (a .m) - 1)) (W (up (a .m))) (take (up (a .m) * a .width) (l .layer2 .last .0)) (l .layer2 .last .1 .1 .1 .1 .1 .1 .0) (omega arith) (cut t l) (omega arith) (log1 t l))
+  room2 : (m : M) → (let s = s-of (q-of (l-of m)) in let a = g-of s .args in Room (a .width) (gap s) (b2 m))
+  room2 m = let l = l-of m in room-after (sz (s-of (q-of l)) .bottom) (b2 m) (same-then (kept1 l) (kept2 m) .blocks)
 
-run-sub-run : (t : ℕ) → run-lts.Need-sub-run (layer-reads.Asked, layer-reads.Learnt, run-below t, run.Post) (run-at t) run.Post
-run-sub-run t c = from t (c .before .before .before .before)
+  kept3 : (n : N) → (let m = m-of n in Same (b2 m) (m .run .last .1 .1 .1 .1 .1 .1 .1 .0) (b3 n) (n .run2 .last .1 .1 .1 .1 .1 .1 .1 .0))
+  kept3 n = record {
+    blocks = behind-kept (room2 (m-of n)) (n .run2 .last .0) (n .run2 .kept .0);
+    log =
+        n .run2 .kept .1 .1 .1 .1 .1 .1 .1 .0;
+  }
 
-run-part-run-start : (t : ℕ) → run-lts.Need-part-run-start (layer-reads.Asked, layer-reads.Learnt, run-below t, run.Post) (run-at t) run.Post
-run-part-run-start t c = from t (c .before .before .before .before)
+  kept : (n : N) → (let a = g-of (s-of (q-of (l-of (m-of n)))) .args in Same (a .blocks .now) (a .log .now) (b3 n)
+      (n .run2 .last .1 .1 .1 .1 .1 .1 .1 .0))
+  kept n = let m = m-of n in same-then (same-then (kept1 (l-of m)) (kept2 m)) (kept3 n)
 
-run-part-run-end : (t : ℕ) → run-lts.Need-part-run-end (layer-reads.Asked, layer-reads.Learnt, run-below t, run.Post) (run-at t) run.Post
-run-part-run-end t c = le-refl _
+  -- how far the entries are after each half
+  far1 : (m : M) → (let a = g-of (s-of (q-of (l-of m))) .args in m .run .result ≡ a .e + (up (a .m) - 1) + W (up (a .m)))
+  far1 m = m .run .ensures .0
 
-run-add-run-2 : (t : ℕ) → run-lts.Need-add-run-2 (layer-reads.Asked, layer-reads.Learnt, run-below t, run.Post) (run-at t) run.Post
-run-add-run-2 t c =
-    omega (arith, sz t (c .before .before .before .before .before .before .before .before .before .before .before .before .before .before .before))
+  far2 : (n : N) → n .run2 .result ≡ m-of n .run .result + W (down (g-of (s-of (q-of (l-of (m-of n)))) .args .m))
+  far2 n = n .run2 .ensures .0
 
-run-run-requires-2 : (t : ℕ) → run-lts.Need-run-requires-2 (layer-reads.Asked, layer-reads.Learnt, run-below t, run.Post) (run-at t) run.Post
-run-run-requires-2 t c κs =
-    let m = c .before .before .before .before .before .before in
-    let l = m .before .before .before .before .before .before .before in
-    let z = sz t (l .before .before .before) in
-    let s = l .before .before .before .before .before .before .before .before in
-    let a = s .args in
-    let r : m .run .result ≡ a .e + (up (a .m) - 1) + W (up (a .m)) = m .run .ensures .0 in
-    let b = m .run .last .0 ++ drop (up (a .m) * a .width) (l .layer2 .last .0) in
-    (omega (arith, s .pre .0), lend (s .pre .1) (down (a .m)) (a .o + up (a .m)) (m .run .result) (W (down (a .m))) (take (length b - up (a .m) * a .width) (drop (up (a .m) * a .width) b)) (m .run .last .1 .1 .1 .1 .1 .0) (omega arith) (ap length (lent t m) ∙ rest t l) (omega (arith, z, r)) (log2 t m))
+  -- ---- the needs
 
-run-layer-requires-3 : (t : ℕ) → run-lts.Need-layer-requires-3 (layer-reads.Asked, layer-reads.Learnt, run-below t, run.Post) (run-at t) run.Post
-run-layer-requires-3 t c κs =
-    let n = c .before .before .before .before .before .before in
-    let m = n .before .before .before .before .before .before .before in
-    let l = m .before .before .before .before .before .before .before in
-    let z = sz t (l .before .before .before) in
-    let s = l .before .before .before .before .before .before .before .before in
-    let a = s .args in
-    let r : m .run .result ≡ a .e + (up (a .m) - 1) + W (up (a .m)) = m .run .ensures .0 in
-    let r2 : n .run2 .result ≡ m .run .result + W (down (a .m)) = n .run2 .ensures .0 in
-    let b = m .run .last .0 ++ drop (up (a .m) * a .width) (l .layer2 .last .0) in
-    (lend (s .pre .1) (a .m) (a .o) (n .run2 .result) (down (a .m)) (putMid (up (a .m) * a .width) (length b - up (a .m) * a .width) b (n .run2 .last .0)) (n .run2 .last .1 .1 .1 .1 .1 .0) (omega arith) (ap length (back t n) ∙ whole t n ∙ sym (s .pre .1 .whole)) (omega (arith, z, r, r2)) (log3 t n), omega arith)
+  run-returns : run-lts.Need-returns (calls t) (run-at t) run.Post
+  run-returns c =
+      let a = c .before .before .before .before .args in
+      nothing (netOf (a .t) (a .o) (a .m) (a .apart)) (a .width) (a .o) (a .e) (bitAt (a .bits .now)) (a .blocks .now) (a .log .now)
+      (c .if1 .taken)
 
-run-add-result-2 : (t : ℕ) → run-lts.Need-add-result-2 (layer-reads.Asked, layer-reads.Learnt, run-below t, run.Post) (run-at t) run.Post
-run-add-result-2 t c =
-    let n = c .before .before .before .before .before .before .before .before .before .before .before in
-    let m = n .before .before .before .before .before .before .before in
-    let l = m .before .before .before .before .before .before .before in
-    let a = l .before .before .before .before .before .before .before .before .args in
-    let r : m .run .result ≡ a .e + (up (a .m) - 1) + W (up (a .m)) = m .run .ensures .0 in
-    let r2 : n .run2 .result ≡ m .run .result + W (down (a .m)) = n .run2 .ensures .0 in
-    omega (arith, sz t (l .before .before .before), r, r2)
+  run-add-k : run-lts.Need-add-k (calls t) (run-at t) run.Post
+  run-add-k c =
+      let p = c .before .before .before .before .pre .1 in
+      omega (arith, fewer (inside-all (p .0) (p .1)) (omega (arith, c .if1 .left)))
 
-run-same-length-3 : (t : ℕ) → run-lts.Need-same-length-3 (layer-reads.Asked, layer-reads.Learnt, run-below t, run.Post) (run-at t) run.Post
-run-same-length-3 t c =
-    let n = c .before .before .before .before .before .before .before .before .before .before .before in
-    c .before .before .before .before .layer3 .kept .0 ∙ ap length (back t n) ∙ whole t n
+  run-step-requires : run-lts.Need-step-requires (calls t) (run-at t) run.Post
+  run-step-requires c κs = search needs
 
-run-same-length-4 : (t : ℕ) → run-lts.Need-same-length-4 (layer-reads.Asked, layer-reads.Learnt, run-below t, run.Post) (run-at t) run.Post
-run-same-length-4 t c =
-    let n = c .before .before .before .before .before .before .before .before .before .before .before in
-    c .before .before .before .before .layer3 .kept .1 .1 .1 .1 .1 .1 .0 ∙ log3 t n
+  run-gap-requires : run-lts.Need-gap-requires (calls t) (run-at t) run.Post
+  run-gap-requires c κs =
+      let p = c .before .before .before .before .before .pre .1 in
+      omega (arith, gap-inside (inside-all (p .0) (p .1)) (c .before .if1 .left))
 
-run-returns-3 : (t : ℕ) → run-lts.Need-returns-3 (layer-reads.Asked, layer-reads.Learnt, run-below t, run.Post) (run-at t) run.Post
-run-returns-3 t c =
-    let f = c .before .before .before .before in
-    let n = f .before .before .before .before .before .before .before in
-    let m = n .before .before .before .before .before .before .before in
-    let l = m .before .before .before .before .before .before .before in
-    let z = sz t (l .before .before .before) in
-    let a = l .before .before .before .before .before .before .before .before .args in
-    let r : m .run .result ≡ a .e + (up (a .m) - 1) + W (up (a .m)) = m .run .ensures .0 in
-    let r2 : n .run2 .result ≡ m .run .result + W (down (a .m)) = n .run2 .ensures .0 in
-    let bottom = rw (lent t m) at (n .run2 .ensures .1) in
-    let outputs = rw (back t n) at (f .layer3 .ensures) in (
-      omega (arith, z, r, r2),
-      applied (a .m) (z .two) (a .width) (bitAt (a .bits .now)) (a .o) (m .run .last .0) (n .run2 .last .0) (omega (arith, z, l .layer2 .kept .0)) (topped t m)
-          (omega (arith, z, r, r2)) (log1 t l) (log2 t m) refl r r2 (l .layer2 .ensures) (m .run .ensures .1) bottom outputs,
-    )
+  run-layer-requires : run-lts.Need-layer-requires (calls t) (run-at t) run.Post
+  run-layer-requires c κs =
+      let s = c .before .before .before in
+      let p = g-of s .pre .1 in
+      let a = g-of s .args in
+      to-pair (p .0) (p .1) (sp s) (two s) (a .e) (same (a .blocks .now) (a .log .now))
+      (omega (arith, W-two (a .m) (c .before .before .if2 .taken)))
+
+  run-add-result : run-lts.Need-add-result (calls t) (run-at t) run.Post
+  run-add-result c =
+      let l = c .before .before .before .before in
+      let g = l .before .before .before .before .before .before .before .before .before .before in
+      omega (arith, g .pre .1 .0 .enough, W-two (g .args .m) (l .before .before .before .if2 .taken), g .good .1 .1 .1 .1 .1 .1 .0 .0)
+
+  run-same-length : run-lts.Need-same-length (calls t) (run-at t) run.Post
+  run-same-length c = c .before .before .before .before .layer .kept .0
+
+  run-same-length-2 : run-lts.Need-same-length-2 (calls t) (run-at t) run.Post
+  run-same-length-2 c = c .before .before .before .before .layer .kept .1 .1 .1 .1 .1 .1 .1 .0
+
+  run-returns-2 : run-lts.Need-returns-2 (calls t) (run-at t) run.Post
+  run-returns-2 c =
+      let l = c .before .before .before .before in
+      let s = l .before .before .before .before in
+      let a = g-of s .args in
+      pair (sp s) (a .width) (a .o) (a .e) (bitAt (a .bits .now)) (l .before .before .before .if2 .taken)
+      (l .layer .ensures)
+
+  run-sub-h : run-lts.Need-sub-h (calls t) (run-at t) run.Post
+  run-sub-h c = omega (arith, sz (c .before) .two)
+
+  run-sub-inputs : run-lts.Need-sub-inputs (calls t) (run-at t) run.Post
+  run-sub-inputs c = omega (arith, sz (c .before) .two)
+
+  run-mul-end : run-lts.Need-mul-end (calls t) (run-at t) run.Post
+  run-mul-end c = omega (arith, sz (c .before) .near)
+
+  run-add-end : run-lts.Need-add-end (calls t) (run-at t) run.Post
+  run-add-end c = omega (arith, sz (c .before) .near)
+
+  run-mul-end-2 : run-lts.Need-mul-end-2 (calls t) (run-at t) run.Post
+  run-mul-end-2 c = omega (arith, fits (sz (c .before) .top))
+
+  run-mul-cut : run-lts.Need-mul-cut (calls t) (run-at t) run.Post
+  run-mul-cut c = omega (arith, fits (sz (c .before) .bottom))
+
+  run-add-at : run-lts.Need-add-at (calls t) (run-at t) run.Post
+  run-add-at c =
+      let s = c .before in
+      let p = g-of s .pre .1 in
+      omega (arith, bottom-starts (net s) (step s) (gap s) (sp s) (inside-all (p .0) (p .1)) (two s))
+
+  run-add-next : run-lts.Need-add-next (calls t) (run-at t) run.Post
+  run-add-next c = let z = sz (c .before) in omega (arith, z .count, z .enough, z .short)
+
+  run-layer-requires-2 : run-lts.Need-layer-requires-2 (calls t) (run-at t) run.Post
+  run-layer-requires-2 c κs =
+      let q = c .before .before in
+      let s = s-of q in
+      let p = g-of s .pre .1 in
+      let a = g-of s .args in
+      let z = sz s in
+      to-layer (p .0) (p .1) (sp s) (z .two) (a .e) (same (a .blocks .now) (a .log .now)) (more q) (up (a .m) - 1)
+      (omega (arith, z .two)) (omega (arith, z .count))
+
+  run-slice-relend-prefix-run : run-lts.Need-slice-relend-prefix-run (calls t) (run-at t) run.Post
+  run-slice-relend-prefix-run c = fits (room1 (c .before .before .before .before))
+
+  run-slice-aggregate-run : run-lts.Need-slice-aggregate-run (calls t) (run-at t) run.Post
+  run-slice-aggregate-run c = sym (front-long (room1 (c .before .before .before .before .before)))
+
+  run-run-requires : run-lts.Need-run-requires (calls t) (run-at t) run.Post
+  run-run-requires c κs =
+      let l = c .before .before .before .before .before .before in
+      let q = q-of l in
+      let s = s-of q in
+      let z = sz s in
+      let p = g-of s .pre in
+      let a = g-of s .args in
+      let h = upper s in (
+        omega (arith, more q, p .0),
+        to-top (p .1 .0) (p .1 .1) (sp s) (z .two) (a .e + (up (a .m) - 1)) (kept1 l) h _ (front-long (room1 l))
+            (omega (arith, z .count)),
+      )
+
+  run-sub-run : run-lts.Need-sub-run (calls t) (run-at t) run.Post
+  run-sub-run c = fits (room2 (c .before .before .before .before))
+
+  run-part-run-start : run-lts.Need-part-run-start (calls t) (run-at t) run.Post
+  run-part-run-start c = fits (room2 (c .before .before .before .before))
+
+  run-part-run-end : run-lts.Need-part-run-end (calls t) (run-at t) run.Post
+  run-part-run-end c = le-refl _
+
+  run-run-requires-2 : run-lts.Need-run-requires-2 (calls t) (run-at t) run.Post
+  run-run-requires-2 c κs =
+      let m = c .before .before .before .before .before .before in
+      let l = l-of m in
+      let q = q-of l in
+      let s = s-of q in
+      let z = sz s in
+      let p = g-of s .pre in
+      let h = lower s in (
+        omega (arith, more q, p .0),
+        to-bottom (p .1 .0) (p .1 .1) (sp s) (z .two) (m .run .result) (same-then (kept1 l) (kept2 m)) h _
+            (behind-long (room2 m)) (omega (arith, z .count, far1 m)),
+      )
+
+  run-layer-requires-3 : run-lts.Need-layer-requires-3 (calls t) (run-at t) run.Post
+  run-layer-requires-3 c κs =
+      let n = c .before .before .before .before .before .before in
+      let q = q-of (l-of (m-of n)) in
+      let s = s-of q in
+      let p = g-of s .pre .1 in
+      let a = g-of s .args in
+      let z = sz s in
+      to-layer (p .0) (p .1) (sp s) (z .two) (n .run2 .result) (kept n) (more q) (down (a .m)) (omega (arith, z .two))
+      (omega (arith, z .count, far1 (m-of n), far2 n))
+
+  run-add-result-2 : run-lts.Need-add-result-2 (calls t) (run-at t) run.Post
+  run-add-result-2 c =
+      let n = c .before .before .before .before .before .before .before .before .before .before .before in
+      let z = sz (s-of (q-of (l-of (m-of n)))) in
+      omega (arith, z .count, z .enough, z .short, far1 (m-of n), far2 n)
+
+  run-same-length-3 : run-lts.Need-same-length-3 (calls t) (run-at t) run.Post
+  run-same-length-3 c =
+      let at4 = c .before .before .before .before in
+      let r = at4 in r .layer3 .kept .0 ∙ kept (r .before .before .before .before .before .before .before) .blocks
+
+  run-same-length-4 : run-lts.Need-same-length-4 (calls t) (run-at t) run.Post
+  run-same-length-4 c =
+      let at4 = c .before .before .before .before in
+      let r = at4 in r .layer3 .kept .1 .1 .1 .1 .1 .1 .1 .0 ∙ kept (r .before .before .before .before .before .before .before) .log
+
+  run-returns-3 : run-lts.Need-returns-3 (calls t) (run-at t) run.Post
+  run-returns-3 c =
+      let r = c .before .before .before .before in
+      let n = r .before .before .before .before .before .before .before in
+      let m = m-of n in
+      let l = l-of m in
+      let q = q-of l in
+      let s = s-of q in
+      let p = g-of s .pre .1 .0 in
+      let I = g-of s .pre .1 .1 in
+      let a = g-of s .args in
+      let z = sz s in
+      let S = sp s in
+      let T = upper s in
+      let U = lower s in
+      let bit = bitAt (a .bits .now) in (
+        omega (arith, z .count, far1 m, far2 n),
+        applied S (z .two) T U (a .width) (a .o) bit (omega (arith, z .count, z .room, far1 m, far2 n)) (kept1 l) (kept2 m)
+            (kept3 n) refl (far1 m) (far2 n) (l .layer2 .ensures)
+            (top-ran p I S (z .two) bit T (room1 l) (m .run .last .0) (m .run .kept .0) (below-all _ (top-inside p I S (z .two) T))
+            (m .run .ensures .1))
+            (bottom-ran p I S (z .two) bit U (room2 m) (n .run2 .last .0) (n .run2 .ensures .1))
+            (r .layer3 .ensures),
+      )
 
 pub +run-spec : {M : Type 1} → statement M
-+run-spec = close μ-run λ t. run-lts.spec (layer-reads.Asked, layer-reads.Learnt, run-below t, run.Post)
++run-spec = close μ-run λ t. run-lts.spec (calls t)
     (run-at t)
     run.Post
     (run-returns t)
+    (run-add-k t)
+    (run-step-requires t)
+    (run-gap-requires t)
     (run-layer-requires t)
     (run-add-result t)
     (run-same-length t)
     (run-same-length-2 t)
     (run-returns-2 t)
-    (run-add-k t)
     (run-sub-h t)
-    (run-mul-cut t)
     (run-sub-inputs t)
+    (run-mul-end t)
+    (run-add-end t)
+    (run-mul-end-2 t)
+    (run-mul-cut t)
+    (run-add-at t)
+    (run-add-next t)
     (run-layer-requires-2 t)
     (run-slice-relend-prefix-run t)
     (run-slice-aggregate-run t)
-    (run-add-run t)
     (run-run-requires t)
     (run-sub-run t)
     (run-part-run-start t)
     (run-part-run-end t)
-    (run-add-run-2 t)
     (run-run-requires-2 t)
     (run-layer-requires-3 t)
     (run-add-result-2 t)

@@ -3,11 +3,14 @@
 use native.Mathlib.Omega.{arith}
 use borrow.Author.Needs.{needs}
 use Rattle.control_sweeps.proofs.Bounds.{each-below}
+use Rattle.control_sweeps.proofs.Places.{small}
 use Rattle.control_layers.proofs.output_switches.Statement.{statement}
 use Rattle.control_layers.proofs.output_switches.Tie as tie
 
-add-k : tie.Need-add-k
-add-k c = search needs
+add-h : tie.Need-add-h
+add-h c =
+    let s = c .before .before .before in
+    omega (arith, small (s .pre .1) (s .pre .0))
 
 sub-h : tie.Need-sub-h
 sub-h c = search needs
@@ -17,24 +20,14 @@ last-bits-requires c κs = search needs
 
 act-on-requires : tie.Need-act-on-requires
 act-on-requires c κs =
-    let b4 = c .before .before .before .before in
-    let b10 = b4 .before .before .before .before .before .before in
-    let a = b10 in (
-      omega (arith, a .pre .0),
-      omega (arith, a .pre .0, a .pre .2),
+    let s = c .before .before .before .before .before .before .before .before .before .before .before in (
+      s .pre .0,
+      s .pre .1,
+      s .pre .2,
+      omega arith,
       search needs,
-      rw (b4 .last-bits .ensures) (each-below 2 _ _ _ (a .args .bits .now) (a .pre .5) (λ i x h. omega arith)),
-    )
-
-act-on-requires-2 : tie.Need-act-on-requires-2
-act-on-requires-2 c κs =
-    let b9 = c .before .before .before .before .before .before .before .before .before in
-    let b15 = b9 .before .before .before .before .before .before in
-    let a = b15 in (
-      omega (arith, a .pre .0),
-      omega (arith, a .pre .0, a .pre .3),
-      search needs,
-      rw (b9 .last-bits .ensures) (each-below 2 _ _ _ (a .args .bits .now) (a .pre .5) (λ i x h. omega arith)),
+      rw (c .before .before .before .before .before .last-bits .ensures)
+          (each-below 2 _ _ _ (s .args .bits .now) (s .pre .4) (λ i x h. omega arith)),
     )
 
 same-length : tie.Need-same-length
@@ -47,20 +40,16 @@ same-length-3 : tie.Need-same-length-3
 same-length-3 c = search needs
 
 returns : tie.Need-returns
-returns c =
-    let b7 = c .before .before .before .before .before .before .before in
-    let b12 = b7 .before .before .before .before .before in
-    record { bits-are = b12 .last-bits .ensures; values-are = b7 .act-on .ensures; trails-are = c .before .before .act-on2 .ensures }
+returns c = search needs
 
 pub output-switches-spec : {M : Type 1} → statement M
 output-switches-spec =
     tie.close
     (tie.spec
-    add-k
+    add-h
     sub-h
     last-bits-requires
     act-on-requires
-    act-on-requires-2
     same-length
     same-length-2
     same-length-3

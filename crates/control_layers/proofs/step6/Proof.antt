@@ -3,8 +3,8 @@
 use native.Mathlib.Omega.{arith}
 use borrow.Author.Needs.{needs}
 use mathlib.Core.Path.{ap}
-use Prim.Native.Nat.{_-_}
-use Rattle.counts.specs.Counts.{up}
+use Rattle.network.specs.Network.{down}
+use Rattle.control_sweeps.proofs.Places.{small, covers-kept}
 use Rattle.control_walk.specs.declared.Walk.{Walk}
 use Rattle.control_walk.proofs.Going.{went-one}
 use Rattle.control_layers.proofs.Stepping.{outputs-within, step6-is}
@@ -12,36 +12,45 @@ use Rattle.control_layers.proofs.step6.Statement.{statement}
 use Rattle.control_layers.proofs.step6.Tie as tie
 
 add-k : tie.Need-add-k
-add-k c = search needs
+add-k c =
+    let s = c .before .before .before .before in
+    omega (arith, small (s .pre .1) (s .pre .0))
 
 output-switches-requires : tie.Need-output-switches-requires
 output-switches-requires c κs = search needs
 
-cast-regain : tie.Need-cast-regain
-cast-regain c = search needs
+cast-join-values : tie.Need-cast-join-values
+cast-join-values c =
+    let at13 = c .before .before .before .before .before .before .before .before .before .before .before .before .before in
+    let at16 = at13 .before .before .before in
+    let s = at16 in
+    omega (arith, small (s .pre .1) (s .pre .0))
 
-regain-requires : tie.Need-regain-requires
-regain-requires c κs =
-    let b8 = c .before .before .before .before .before .before .before .before in
-    let b16 = b8 .before .before .before .before .before .before .before .before in
-    let a = b16 in
-    let S = b8 .output-switches .ensures in
-    (omega (arith, a .pre .1), search needs, search needs, rw (S .values-are) (outputs-within (a .args .o) (a .args .m) 32768 _ _ (a .args .vals .now) (a .pre .7)))
-
-lose-bits-requires : tie.Need-lose-bits-requires
-lose-bits-requires c κs = search needs
+join-values-requires : tie.Need-join-values-requires
+join-values-requires c κs =
+    let at13 = c .before .before .before .before .before .before .before .before .before .before .before .before .before in
+    let at16 = at13 .before .before .before in
+    let s = at16 in
+    let x = c .before .before .before .before .before .before .before .before .output-switches in (
+      omega (arith, small (s .pre .1) (s .pre .0)),
+      covers-kept (x .last .0) (x .kept .0) (s .pre .1),
+      covers-kept (x .last .1 .0) (x .kept .1 .0) (s .pre .2),
+      rw (x .ensures .values-are) (outputs-within (s .args .net) 32768 _ _ (s .args .vals .now) (s .pre .6)),
+    )
 
 write-entry-requires : tie.Need-write-entry-requires
-write-entry-requires c κs = search needs
+write-entry-requires c κs =
+    let at13 = c .before .before .before .before .before .before .before .before .before .before .before .before .before in
+    let at22 = at13 .before .before .before .before .before .before .before .before .before in
+    let s = at22 in
+    let z = small (s .pre .1) (s .pre .0) in
+    (s .pre .4, omega (arith, z), omega (arith, z))
 
 sub-passed : tie.Need-sub-passed
 sub-passed c = search needs
 
 passed-requires : tie.Need-passed-requires
-passed-requires c κs =
-    let b27 = c .before .before .before .before .before .before .before .before .before .before .before .before .before .before .before .before .before .before .before .before .before .before .before .before .before .before .before in
-    let a = b27 in
-    (omega (arith, a .pre .5, a .good .1 .1 .1 .1 .1 .0 .0), omega (arith, a .pre .4, a .good .1 .1 .0 .0))
+passed-requires c κs = search needs
 
 same-length : tie.Need-same-length
 same-length c = search needs
@@ -57,16 +66,15 @@ same-length-4 c = search needs
 
 returns : tie.Need-returns
 returns c =
-    let b7 = c .before .before .before .before .before .before .before in
-    let b11 = b7 .before .before .before .before in
-    let b20 = b11 .before .before .before .before .before .before .before .before .before in
-    let b28 = b20 .before .before .before .before .before .before .before .before in
-    let a = b28 .args in (
-      went-one 6 (a .o) (a .m) (a .m - up (a .m)) (a .w) (c .passed .result) (a .log .now) _ (ap (λ (r : Walk). r .e) (c .passed .ensures))
+    let at13 = c .before .before .before .before .before .before .before .before .before .before .before .before .before in
+    let at26 = at13 .before .before .before .before .before .before .before .before .before .before .before .before .before in
+    let a = at26 .args in
+    let n = down (a .net .size) in (
+      went-one 6 (a .net .start) (a .net .size) n (a .w) (c .passed .result) (a .log .now) _ (ap (λ (r : Walk). r .e) (c .passed .ensures))
           (ap (λ (r : Walk). r .b) (c .passed .ensures)) (c .before .before .before .write-entry .ensures),
       λ ms bit e.
-          step6-is (a .o) (a .m) bit (a .vals .now) (a .trails .now) ms (a .bits .now) (a .w) (c .passed .result) (a .m - up (a .m)) (a .w .b) _ _ _ _ _
-          (b20 .output-switches .ensures) (b11 .regain .ensures) (b7 .lose-bits .ensures) (c .passed .ensures) e,
+          step6-is (a .net) bit (a .vals .now) (a .trails .now) ms (a .bits .now) (a .w) (c .passed .result) n (a .w .b) _ _ _ _ _
+          (c .before .before .before .before .before .before .before .before .before .before .before .before .before .before .before .before .before .before .output-switches .ensures) (c .before .before .before .before .before .before .before .before .before .join-values .ensures) (c .passed .ensures) e,
     )
 
 pub step6-spec : {M : Type 1} → statement M
@@ -75,9 +83,8 @@ step6-spec =
     (tie.spec
     add-k
     output-switches-requires
-    cast-regain
-    regain-requires
-    lose-bits-requires
+    cast-join-values
+    join-values-requires
     write-entry-requires
     sub-passed
     passed-requires

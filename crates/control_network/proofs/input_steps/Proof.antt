@@ -8,13 +8,14 @@ use Prim.Native.Nat.{ℕ, _≤_, _<_}
 use lib.ListN.{replicate}
 use Rattle.counts.specs.Counts.{up}
 use Rattle.counts.proofs.Rule.{E-more}
-use Rattle.network.specs.Wiring.{paper}
 use Rattle.steps.specs.State.{State}
 use Rattle.steps.specs.Steps.{step4}
 use Rattle.steps.proofs.Lengths.{length-rounds}
+use Rattle.wirings.specs.Nets.{wiringOf}
 use Rattle.control_pairs.specs.Pairs.{marksIn}
 use Rattle.control_pairs.proofs.Held.{marks-cleared}
-use Rattle.control_walk.specs.Walks.{state, within}
+use Rattle.control_sweeps.proofs.Places.{small}
+use Rattle.control_walk.specs.Walks.{state, subnetworkOf}
 use Rattle.control_network.specs.Inner.{Tidy, unmarked}
 use Rattle.control_network.proofs.Bounds.{order-small, tidy-is, tidy-rounds}
 use Rattle.control_network.proofs.Trails.{ordered-within}
@@ -24,48 +25,66 @@ use Rattle.control_network.proofs.input_steps.Tie as tie
 
 returns : tie.Need-returns
 returns c =
-    let a = c .before .before .before .before .before .before in
-    let h : a .args .m < 3 = c .if1 .taken in (
-      went-as (input-none (a .args .o) (a .args .m) h) (omega (arith, a .pre .0)) (went-none (a .args .w) (a .args .log .now)),
-      λ j l. steps-none (a .args .o) (a .args .m) (a .args .w .b) (unmarked j (a .args .vals .now) (a .args .trails .now) (a .args .bits .now) (a .args .w)) h,
+    let s = c .before .before .before .before .before .before .before in
+    let a = s .args in
+    let h : a .net .size < 3 = c .if1 .taken in (
+      went-as (input-none (a .net .start) (a .net .size) h) (omega (arith, s .pre .0)) (went-none (a .w) (a .log .now)),
+      λ j l. steps-none (wiringOf (a .net .topology)) (subnetworkOf (a .net) (a .w .b))
+          (unmarked j (a .vals .now) (a .trails .now) (a .bits .now) (a .w)) h,
     )
 
 settle-inputs-requires : tie.Need-settle-inputs-requires
 settle-inputs-requires c κs =
-    let a = c .before .before .before .before .before .before .before .before .before .before .before in
-    let h : 3 ≤ a .args .m = c .before .before .before .before .before .if1 .left in
-    let R = a .pre .1 in (
-      a .pre .0,
-      R .places,
+    let s = c .before .before .before .before .before .before .before .before .before .before .before .before in
+    let a = s .args in
+    let h : 3 ≤ a .net .size = c .before .before .before .before .before .if1 .left in
+    let R = s .pre .1 in (
+      s .pre .0,
       R .values-room,
       R .pairs-room,
-      omega (arith, R .bits-room, W-parts (a .args .m) (a .pre .0)),
-      omega (arith, R .log-room, E-more (a .args .m) h),
-      ordered-within (a .args .o) (a .args .m) (a .args .w .b) (unmarked 512 (a .args .vals .now) (a .args .trails .now) (a .args .bits .now) (a .args .w)) (omega (arith, R .places)) (a .pre .3),
-      a .pre .2 .f-below,
-      a .pre .2 .c-below,
+      omega (arith, R .bits-room, W-parts (a .net .size) (s .pre .0)),
+      omega (arith, R .log-room, E-more (a .net .size) h),
+      ordered-within (a .net) (a .w .b) (unmarked 512 (a .vals .now) (a .trails .now) (a .bits .now) (a .w))
+          (small (R .values-room) (s .pre .0) .0) (s .pre .3),
+      s .pre .2 .f-below,
+      s .pre .2 .c-below,
     )
 
 step4-requires : tie.Need-step4-requires
 step4-requires c κs =
-    let a = c .before .before .before .before .before .before .before .before .before .before .before .before .before .before .before .before .before .before .before .before .before .before in
-    let h : 3 ≤ a .args .m = c .before .before .before .before .before .before .before .before .before .before .before .before .before .before .before .before .if1 .left in
+    let at13 = c .before .before .before .before .before .before .before .before .before .before .before .before .before in
+    let at23 = at13 .before .before .before .before .before .before .before .before .before .before in
+    let s = at23 in
+    let a = s .args in
+    let at13 = c .before .before .before .before .before .before .before .before .before .before .before .before .before in
+    let at16 = at13 .before .before .before in
+    let h : 3 ≤ a .net .size = at16 .if1 .left in
     let x = c .before .before .before .before .before .before .before .before .before .before .settle-inputs in
-    let k = up (a .args .m) in
-    let N = within (a .args .o) (a .args .m) (a .args .w .b) in
-    let R = a .pre .1 in
-    let s : State = unmarked k (a .args .vals .now) (a .args .trails .now) (a .args .bits .now) (a .args .w) in
-    let S = a .pre .3 in
-    let T : Tidy (state (a .args .vals .now) (a .args .trails .now) (marksIn k (x .last .1 .0) (replicate k 0)) (x .last .1 .1 .1 .0) (x .result)) =
-    tidy-is (sym (x .ensures .1 (a .args .trails .now) k (omega arith)))
-    (tidy-rounds N (omega (arith, R .places)) s (order-small N (S .order) (unmarked 512 (a .args .vals .now) (a .args .trails .now) (a .args .bits .now) (a .args .w)) (omega (arith, R .places)) (S .permutation) (S .holding)) (a .pre .2) k)
+    let k = up (a .net .size) in
+    let N = subnetworkOf (a .net) (a .w .b) in
+    let R = s .pre .1 in
+    let few = small (R .values-room) (s .pre .0) .0 in
+    let before : State = unmarked k (a .vals .now) (a .trails .now) (a .bits .now) (a .w) in
+    let O = s .pre .3 in
+    let T : Tidy (state (a .vals .now) (a .trails .now) (marksIn k (x .last .1 .0) (replicate k 0)) (x .last .1 .1 .1 .0) (x .result)) =
+    tidy-is (sym (x .ensures .1 (a .trails .now) k (omega arith)))
+    (tidy-rounds (a .net .topology) N few before
+    (order-small N (O .order) (unmarked 512 (a .vals .now) (a .trails .now) (a .bits .now) (a .w)) few (O .permutation) (O .holding))
+    (s .pre .2) k)
     in (
-      a .pre .0,
-      R .places,
+      s .pre .0,
       R .values-room,
       R .trails-room,
-      omega (arith, R .bits-room, x .kept .1 .1 .1 .0, x .ensures .0 .bit, W-parts (a .args .m) (a .pre .0)),
-      omega (arith, R .log-room, x .kept .1 .1 .1 .1 .1 .1 .0, x .ensures .0 .count, length-rounds k (a .args .o) (a .args .m), E-more (a .args .m) h),
+      omega (arith, R .bits-room, x .kept .1 .1 .1 .0, x .ensures .0 .bit, W-parts (a .net .size) (s .pre .0)),
+      omega (
+        arith,
+        R .log-room,
+        x .kept .1 .1 .1 .1 .1 .0,
+        x .ensures .0 .count,
+        length-rounds k (a .net .start) (a .net .size),
+        E-more
+            (a .net .size) h,
+      ),
       T .bits-below,
     )
 
@@ -86,22 +105,33 @@ same-length-5 c = search needs
 
 returns-2 : tie.Need-returns-2
 returns-2 c =
-    let b29 = c .before .before .before .before .before .before .before .before .before .before .before .before .before .before .before .before .before .before .before .before .before .before .before .before .before .before .before .before .before in
-    let a = b29 .args in
-    let h : 3 ≤ a .m = c .before .before .before .before .before .before .before .before .before .before .before .before .before .before .before .before .before .before .before .before .before .before .before .if1 .left in
-    let x = c .before .before .before .before .before .before .before .before .before .before .before .before .before .before .before .before .before .settle-inputs in
+    let at13 = c .before .before .before .before .before .before .before .before .before .before .before .before .before in
+    let at26 = at13 .before .before .before .before .before .before .before .before .before .before .before .before .before in
+    let at30 = at26 .before .before .before .before in
+    let s = at30 in
+    let a = s .args in
+    let at13 = c .before .before .before .before .before .before .before .before .before .before .before .before .before in
+    let at23 = at13 .before .before .before .before .before .before .before .before .before .before in
+    let h : 3 ≤ a .net .size = at23 .if1 .left in
+    let at13 = c .before .before .before .before .before .before .before .before .before .before .before .before .before in
+    let at17 = at13 .before .before .before .before in
+    let x = at17 .settle-inputs in
     let y = c .before .before .before .before .before .before .step4 in
-    let k = up (a .m) in
+    let k = up (a .net .size) in
+    let wiring = wiringOf (a .net .topology) in
     let b : x .result .b ≡ a .w .b = omega (arith, x .ensures .0 .bit) in (
-      went-as (input-some (a .o) (a .m) h) (omega arith)
-          (went-then (omega (arith, b29 .pre .1 .log-room, length-rounds k (a .o) (a .m), E-more (a .m) h)) (x .ensures .0) (y .ensures .0)),
+      went-as (input-some (a .net .start) (a .net .size) h) (omega arith)
+          (went-then (omega (arith, s .pre .1 .log-room, length-rounds k (a .net .start) (a .net .size), E-more (a .net .size) h))
+          (x .ensures .0) (y .ensures .0)),
       λ j l.
           let marks : List ℕ = marksIn k (x .last .1 .0) (replicate j 0) in
-          ap (λ (ms : List ℕ). state (y .last .0) (y .last .1 .0) ms (x .last .1 .1 .1 .0) (y .result)) (sym (marks-cleared k j (x .last .1 .0) l))
+          ap (λ (ms : List ℕ). state (y .last .0) (y .last .1 .0) ms (x .last .1 .1 .1 .0) (y .result))
+          (sym (marks-cleared k j (x .last .1 .0) l))
           ∙ y .ensures .1 marks
-          ∙ ap (λ n. step4 paper (within (a .o) (a .m) n) (state (a .vals .now) (a .trails .now) marks (x .last .1 .1 .1 .0) (x .result))) b
-          ∙ ap (step4 paper (within (a .o) (a .m) (a .w .b))) (x .ensures .1 (a .trails .now) j l)
-          ∙ steps-some (a .o) (a .m) (a .w .b) (unmarked j (a .vals .now) (a .trails .now) (a .bits .now) (a .w)) h,
+          ∙ ap (λ n. step4 wiring (subnetworkOf (a .net) n)
+          (state (a .vals .now) (a .trails .now) marks (x .last .1 .1 .1 .0) (x .result))) b
+          ∙ ap (step4 wiring (subnetworkOf (a .net) (a .w .b))) (x .ensures .1 (a .trails .now) j l)
+          ∙ steps-some wiring (subnetworkOf (a .net) (a .w .b)) (unmarked j (a .vals .now) (a .trails .now) (a .bits .now) (a .w)) h,
     )
 
 pub input-steps-spec : {M : Type 1} → statement M

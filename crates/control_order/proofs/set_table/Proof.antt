@@ -17,19 +17,27 @@ load-requires c κs = search needs
 clear-requires : tie.Need-clear-requires
 clear-requires c κs = search needs
 
+whole-requires : tie.Need-whole-requires
+whole-requires c κs = search needs
+
 set-network-requires : tie.Need-set-network-requires
 set-network-requires c κs =
-    let a = c .before .before .before .before .before .before .before .before .before .before .before .before .before .before .before .before .before .before .before .before in
-    let v = c .before .before .before .before .before .before .before .before .before .before .before .before .load in
-    let b = c .before .before .before .before .before .before .before .before .clear in
-    let o = a .args .order .now in
-    let bs : b .last .0 ≡ replicate {A = ℕ} (W (length o)) 0 = b .ensures ∙ cleared (a .args .bits .now) (W (length o)) (a .pre .5) in (
-      room-start o (v .last .0) (a .args .trails .now) (a .args .pairs .now) (b .last .0) (a .args .log .now) (a .pre .0) (v .kept .0 ∙ a .pre .2) (a .pre .3)
-          (a .pre .4) (b .kept .0 ∙ a .pre .5) (omega (arith, b .kept .0, a .pre .6)) (a .pre .7),
-      tidy-is (sym (start-is o (v .last .0) (a .args .trails .now) (b .last .0) (v .ensures) (a .pre .3) bs)) (tidy-start o),
-      ordered-start o (v .last .0) (a .args .trails .now) (b .last .0) (a .pre .0) (a .pre .1) (v .ensures) (ap length (a .pre .3) ∙ length-replicate {A = ℕ} (length o) 0)
-          (b .kept .0 ∙ a .pre .5),
-      rw (a .pre .3) (zeros-lengthen (length o) (a .pre .0)),
+    let at13 = c .before .before .before .before .before .before .before .before .before .before .before .before .before in
+    let at21 = at13 .before .before .before .before .before .before .before .before in
+    let s = at21 in
+    let a = s .args in
+    let v = c .before .before .before .before .before .before .before .before .before .before .before .before .before .load in
+    let b = c .before .before .before .before .before .before .before .before .before .clear in
+    let o = a .order .now in
+    let bs : b .last .0 ≡ replicate {A = ℕ} (W (length o)) 0 = b .ensures ∙ cleared (a .bits .now) (W (length o)) (s .pre .5) in
+    rw (c .before .whole .ensures) (
+      room-start o (v .last .0) (a .trails .now) (a .pairs .now) (b .last .0) (a .log .now) (s .pre .0) (v .kept .0 ∙ s .pre .2) (s .pre .3)
+          (s .pre .4) (b .kept .0 ∙ s .pre .5) (omega (arith, b .kept .0, s .pre .6)) (s .pre .7),
+      tidy-is (sym (start-is o (v .last .0) (a .trails .now) (b .last .0) (v .ensures) (s .pre .3) bs)) (tidy-start o),
+      ordered-start o (v .last .0) (a .trails .now) (b .last .0) (s .pre .0) (s .pre .1) (v .ensures)
+          (ap length (s .pre .3) ∙ length-replicate {A = ℕ} (length o) 0)
+          (b .kept .0 ∙ s .pre .5),
+      rw (s .pre .3) (zeros-lengthen (length o) (s .pre .0)),
     )
 
 same-length : tie.Need-same-length
@@ -49,12 +57,21 @@ same-length-5 c = search needs
 
 returns : tie.Need-returns
 returns c =
-    let a = c .before .before .before .before .before .before .before .before .before .before .before .before .before .before .before .before .before .before .before .before .before .before .before .before .before .before .before .before .before .before .before in
-    let v = c .before .before .before .before .before .before .before .before .before .before .before .before .before .before .before .before .before .before .before .before .before .before .before .load in
-    let b = c .before .before .before .before .before .before .before .before .before .before .before .before .before .before .before .before .before .before .before .clear in
+    let at13 = c .before .before .before .before .before .before .before .before .before .before .before .before .before in
+    let at26 = at13 .before .before .before .before .before .before .before .before .before .before .before .before .before in
+    let at32 = at26 .before .before .before .before .before .before in
+    let s = at32 in
+    let a = s .args in
+    let at13 = c .before .before .before .before .before .before .before .before .before .before .before .before .before in
+    let at24 = at13 .before .before .before .before .before .before .before .before .before .before .before in
+    let v = at24 .load in
+    let at13 = c .before .before .before .before .before .before .before .before .before .before .before .before .before in
+    let at20 = at13 .before .before .before .before .before .before .before in
+    let b = at20 .clear in
     let x = c .before .before .before .before .before .before .before .before .before .before .set-network in
-    sets-whole (a .args .order .now) (v .last .0) (a .args .trails .now) (b .last .0) (a .args .bits .now) (a .args .log .now) _ _ _ _ (x .result)
-    (v .ensures) (a .pre .3) (b .ensures) (a .pre .5) (x .ensures .0) (x .ensures .1)
+    let net = c .before .before .before .before .before .before .before .before .before .before .before .before .whole .ensures in
+    sets-whole (a .order .now) (v .last .0) (a .trails .now) (b .last .0) (a .bits .now) (a .log .now) _ _ _ _ (x .result)
+    (v .ensures) (s .pre .3) (b .ensures) (s .pre .5) (rw net at (x .ensures .0)) (rw net at (x .ensures .1))
 
 pub set-table-spec : {M : Type 1} → statement M
 set-table-spec =
@@ -62,6 +79,7 @@ set-table-spec =
     (tie.spec
     load-requires
     clear-requires
+    whole-requires
     set-network-requires
     same-length
     same-length-2

@@ -3,7 +3,10 @@
 use native.Mathlib.Omega.{arith}
 use borrow.Author.Needs.{needs}
 use mathlib.Core.Path.{refl}
-use Rattle.control_sweeps.proofs.Bounds.{other-below, seek-below}
+use Rattle.counts.specs.Counts.{up}
+use Rattle.wirings.specs.Nets.{wiringOf}
+use Rattle.control_sides.proofs.Bounds.{other-below}
+use Rattle.control_sweeps.proofs.Bounds.{seek-below}
 use Rattle.control_walk.proofs.Going.{went-one}
 use Rattle.control_rings.proofs.Stepping.{step2-is}
 use Rattle.control_rings.proofs.step2.Statement.{statement}
@@ -20,30 +23,32 @@ other-of-requires c κs = search needs
 
 seek-in-requires : tie.Need-seek-in-requires
 seek-in-requires c κs =
-    let a = c .before .before in
-    (omega arith, omega arith, rw (c .other-of .ensures) (other-below _ _ (omega arith) (a .pre .4)), a .pre .3)
+    let s = c .before .before in
+    (omega arith, omega arith, rw (c .other-of .ensures) (other-below (s .args .net .topology) _ _ (omega arith) (s .pre .5)), s .pre .4)
 
 write-entry-requires : tie.Need-write-entry-requires
 write-entry-requires c κs = search needs
 
-add-t9 : tie.Need-add-t9
-add-t9 c = search needs
+add-t10 : tie.Need-add-t10
+add-t10 c = search needs
 
 same-length : tie.Need-same-length
 same-length c = search needs
 
 returns : tie.Need-returns
 returns c =
-    let b4 = c .before .before .before .before in
-    let b5 = b4 .before in
-    let b7 = b5 .before .before in
-    let a = b7 .args in (
-      went-one 2 (a .o) (a .m) 0 (a .w) _ (a .log .now) _ (omega arith) (omega arith) (c .before .before .write-entry .ensures),
+    let q = c .before .before .before .before .seek-in in
+    let o = c .before .before .before .before .before .other-of in
+    let s = c .before .before .before .before .before .before .before in
+    let a = s .args in
+    let small = other-below (a .net .topology) (up (a .net .size)) (a .w .g) (omega (arith, s .pre .1)) (s .pre .5) in (
+      went-one 2 (a .net .start) (a .net .size) 0 (a .w) _ (a .log .now) _ (omega arith) (omega arith)
+          (c .before .before .write-entry .ensures),
       refl,
-      (refl, refl, rw (b4 .seek-in .ensures) (seek-below (λ i. i) (a .m) (a .row .now) (b5 .other-of .result) (omega arith) (rw (b5 .other-of .ensures) (other-below _ _ (omega arith) (b7 .pre .4))))),
+      (refl, refl, rw (q .ensures) (seek-below (λ i. i) (a .net .size) (a .row .now) (o .result) (omega arith) (rw (o .ensures) small))),
       λ place vs ts ms bs bit G.
-          step2-is place (a .m) bit vs ts (a .w) (a .row .now) ms bs (b5 .other-of .result) (b4 .seek-in .result) G (b5 .other-of .ensures)
-          (b4 .seek-in .ensures),
+          step2-is (wiringOf (a .net .topology)) place (a .net .size) bit vs ts (a .w) (a .row .now) ms bs (o .result) (q .result) G
+          (o .ensures) (q .ensures),
     )
 
 pub step2-spec : {M : Type 1} → statement M
@@ -55,6 +60,6 @@ step2-spec =
     other-of-requires
     seek-in-requires
     write-entry-requires
-    add-t9
+    add-t10
     same-length
     returns)

@@ -1,139 +1,84 @@
--- The first i switches have acted.
+-- The network's pairs, counted by steps.
 -- Assumes nothing.
-use native.Mathlib.Omega.{arith}
 use borrow.Author.Needs.{needs}
-use mathlib.Core.Path.{_≡_, refl}
-use Prim.Native.Nat.{_+_, _-_, _≤_}
-use lib.ListN.{length, length-set}
-use Rattle.steps.specs.Sweeps.{act}
-use Rattle.network.specs.Wiring.{paper}
-use Rattle.control_sweeps.proofs.Places.{at-place, act-step}
+use mathlib.Core.Path.{refl, sym}
+use Rattle.wirings.proofs.Halves.{inside-more}
+use Rattle.control_sweeps.proofs.Places.{reaches, acted}
 use Rattle.control_sweeps.proofs.act_on.Statement.{statement}
 use Rattle.control_sweeps.proofs.act_on.Tie as tie
 
-abbrev Inv-loop : tie.InvT-loop
-Inv-loop xs₀ o k n bits b i₀ xs i = ((i ≤ n) × (length xs ≡ length xs₀)) × (xs ≡ act (λ p. o + paper .enc k p) bits b i xs₀)
+spacing-of-requires : tie.Need-spacing-of-requires
+spacing-of-requires c κs =
+    let s = c .before .before .before in
+    (s .pre .0, inside-more (s .pre .1 .inside) (s .pre .1 .short))
 
-abbrev μ-loop : tie.MeasureT-loop
-μ-loop xs₀ o k n bits b i₀ xs i = n - i
-
-loop-holds : tie.Need-loop-holds Inv-loop μ-loop
-unfolding act
-loop-holds c = ((omega arith, refl), refl)
-
-add-wide : tie.Need-add-wide Inv-loop μ-loop
-add-wide c = omega arith
-
-shared-slice-read-wide : tie.Need-shared-slice-read-wide Inv-loop μ-loop
-shared-slice-read-wide c = omega arith
-
-wide-requires : tie.Need-wide-requires Inv-loop μ-loop
-wide-requires c κs = search needs
-
-add-x : tie.Need-add-x Inv-loop μ-loop
-add-x c = omega arith
-
-mul-x : tie.Need-mul-x Inv-loop μ-loop
-mul-x c = omega arith
-
-slice-read-x : tie.Need-slice-read-x Inv-loop μ-loop
-slice-read-x c = omega arith
-
-add-y : tie.Need-add-y Inv-loop μ-loop
-add-y c = omega arith
-
-add-y-2 : tie.Need-add-y-2 Inv-loop μ-loop
-add-y-2 c = omega arith
-
-mul-y : tie.Need-mul-y Inv-loop μ-loop
-mul-y c = omega arith
-
-slice-read-y : tie.Need-slice-read-y Inv-loop μ-loop
-slice-read-y c = omega arith
-
-pick-requires : tie.Need-pick-requires Inv-loop μ-loop
-pick-requires c κs = rw (c .before .before .wide .ensures) (at-place 2 (c .before .before .before .before .before .before .before .before .args .bits .now) (c .before .before .before .before .before .before .before .before .args .b + c .before .before .before .before .before .loop .i) (c .before .before .before .before .before .before .before .before .pre .3))
-
-add-xs : tie.Need-add-xs Inv-loop μ-loop
-add-xs c = omega arith
-
-mul-xs : tie.Need-mul-xs Inv-loop μ-loop
-mul-xs c = omega arith
-
-slice-write-xs : tie.Need-slice-write-xs Inv-loop μ-loop
-slice-write-xs c = omega arith
-
-pick-requires-2 : tie.Need-pick-requires-2 Inv-loop μ-loop
-pick-requires-2 c κs =
-    let b6 = c .before .before .before .before .before .before in
-    let b9 = b6 .before .before .before in
-    rw (c .before .before .before .wide .ensures) (at-place 2 (b9 .args .bits .now) (b9 .args .b + b6 .loop .i) (b9 .pre .3))
-
-add-xs-2 : tie.Need-add-xs-2 Inv-loop μ-loop
-add-xs-2 c = omega arith
-
-add-xs-3 : tie.Need-add-xs-3 Inv-loop μ-loop
-add-xs-3 c = omega arith
-
-mul-xs-2 : tie.Need-mul-xs-2 Inv-loop μ-loop
-mul-xs-2 c = omega arith
-
-slice-write-xs-2 : tie.Need-slice-write-xs-2 Inv-loop μ-loop
-slice-write-xs-2 c = simp length-set (omega arith)
-
-add-i : tie.Need-add-i Inv-loop μ-loop
-add-i c = omega arith
-
-loop-less : tie.Need-loop-less Inv-loop μ-loop
-loop-less c = omega arith
-
-loop-again : tie.Need-loop-again Inv-loop μ-loop
-loop-again c =
-    let b4 = c .before .before .before .before in
-    let b7 = b4 .before .before .before in
-    let b10 = b7 .before .before .before in
-    let l = b7 .loop in
-    let a = b10 .args in (
-      (omega arith, simp length-set (l .inv .0 .1)),
-      rw (c .pick2 .ensures, c .before .pick .ensures)
-          (act-step (a .o) (a .k) (l .i) (b4 .wide .result) (λ p. a .o + paper .enc (a .k) p) (a .bits .now) (l .xs) (a .xs .now) (a .b) refl refl
-          (b4 .wide .ensures) (l .inv .1)),
+act-by-requires : tie.Need-act-by-requires
+act-by-requires c κs =
+    let s = c .before .before .before .before .before .before .before in
+    let a = s .args in
+    let g = c .before .before .before .spacing-of in
+    let r = reaches (a .net) (g .result .step) (g .result .gap) (a .n) in (
+      r (a .vals .now) (g .ensures) (s .pre .1) (s .pre .3) 1 (sym (c .before .before .if1 .taken)),
+      r (a .trails .now) (g .ensures)
+          (s .pre .2) (s .pre .3) 1 (sym (c .before .before .if1 .taken)),
+      s .pre .4,
+      s .pre .5,
     )
 
-same-length : tie.Need-same-length Inv-loop μ-loop
-same-length c = c .before .loop .inv .0 .1
+act-by-requires-2 : tie.Need-act-by-requires-2
+act-by-requires-2 c κs =
+    let s = c .before .before .before .before .before .before .before in
+    let a = s .args in
+    let g = c .before .before .before .spacing-of in
+    let r = reaches (a .net) (g .result .step) (g .result .gap) (a .n) in (
+      r (a .vals .now) (g .ensures) (s .pre .1) (s .pre .3) (g .result .step) refl,
+      r (a .trails .now) (g .ensures) (s .pre .2)
+          (s .pre .3) (g .result .step) refl,
+      s .pre .4,
+      s .pre .5,
+    )
 
-returns : tie.Need-returns Inv-loop μ-loop
-returns c = let e : c .before .loop .i ≡ c .before .before .before .before .args .n = omega arith in rw (← e) (c .before .loop .inv .1)
+same-length : tie.Need-same-length
+same-length c = search needs
+
+same-length-2 : tie.Need-same-length-2
+same-length-2 c = search needs
+
+returns : tie.Need-returns
+returns c =
+    let s = c .before .before .before .before .before .before .before .before .before .before .before .before in
+    let a = s .args in
+    let g = c .before .before .before .before .before .before .before .before .spacing-of in
+    let x = c .before .before .before .before .act-by in
+    let at7 = c .before .before .before .before .before .before .before in
+    let f = acted (a .net) (g .result .step) (g .result .gap) 1 (g .ensures) (sym (at7 .if1 .taken)) (a .bits .now) (a .b) (a .n) in
+    (f (a .vals .now) _ (x .ensures .0), f (a .trails .now) _ (x .ensures .1))
+
+same-length-3 : tie.Need-same-length-3
+same-length-3 c = search needs
+
+same-length-4 : tie.Need-same-length-4
+same-length-4 c = search needs
+
+returns-2 : tie.Need-returns-2
+returns-2 c =
+    let s = c .before .before .before .before .before .before .before .before .before .before .before .before in
+    let a = s .args in
+    let g = c .before .before .before .before .before .before .before .before .spacing-of in
+    let x = c .before .before .before .before .act-by2 in
+    let f = acted (a .net) (g .result .step) (g .result .gap) (g .result .step) (g .ensures) refl (a .bits .now) (a .b) (a .n) in
+    (f (a .vals .now) _ (x .ensures .0), f (a .trails .now) _ (x .ensures .1))
 
 pub act-on-spec : {M : Type 1} → statement M
 act-on-spec =
     tie.close
     (tie.spec
-    Inv-loop
-    μ-loop
-    loop-holds
-    add-wide
-    shared-slice-read-wide
-    wide-requires
-    add-x
-    mul-x
-    slice-read-x
-    add-y
-    add-y-2
-    mul-y
-    slice-read-y
-    pick-requires
-    add-xs
-    mul-xs
-    slice-write-xs
-    pick-requires-2
-    add-xs-2
-    add-xs-3
-    mul-xs-2
-    slice-write-xs-2
-    add-i
-    loop-less
-    loop-again
+    spacing-of-requires
+    act-by-requires
+    act-by-requires-2
     same-length
-    returns)
+    same-length-2
+    returns
+    same-length-3
+    same-length-4
+    returns-2)

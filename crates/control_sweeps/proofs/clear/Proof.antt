@@ -30,8 +30,11 @@ loop-less c = omega arith
 
 loop-again : tie.Need-loop-again Inv-loop μ-loop
 loop-again c =
-    let l = c .before .loop in
-    ((omega arith, simp length-set (l .inv .0 .1)), each-step (λ j. j) (λ j x. 0) (l .xs) (c .before .before .args .xs .now) (l .i) (l .inv .1))
+    let l = c .before .loop in (
+      (omega arith, simp length-set (l .inv .0 .1)),
+      each-step (λ j. j) (λ j x. 0) (l .xs) (c .before .before .args .xs .now) (l .i)
+          (l .inv .1),
+    )
 
 same-length : tie.Need-same-length Inv-loop μ-loop
 same-length c = c .before .loop .inv .0 .1

@@ -1,77 +1,67 @@
--- The first i bits are written.
+-- The network's pairs, counted by steps.
 -- Assumes nothing.
-use native.Mathlib.Omega.{arith}
-use mathlib.Core.Path.{_≡_, refl}
-use Prim.Native.Nat.{_+_, _-_, _%_, _≤_}
-use lib.ListN.{length, getD, length-set}
-use Rattle.steps.specs.Sweeps.{each}
-use Rattle.control_sweeps.proofs.Places.{each-step}
+use borrow.Author.Needs.{needs}
+use mathlib.Core.Path.{refl, sym}
+use Rattle.wirings.proofs.Halves.{inside-more}
+use Rattle.control_sweeps.proofs.Places.{reaches-first, taken}
 use Rattle.control_sweeps.proofs.last_bits.Statement.{statement}
 use Rattle.control_sweeps.proofs.last_bits.Tie as tie
 
-abbrev Inv-loop : tie.InvT-loop
-Inv-loop bits₀ b n trails o i₀ bits i = ((i ≤ n) × (length bits ≡ length bits₀)) × (bits ≡ each (λ j. b + j) i (λ j x. getD trails (o + j) 0 % 2) bits₀)
+spacing-of-requires : tie.Need-spacing-of-requires
+spacing-of-requires c κs =
+    let s = c .before .before in
+    (s .pre .0, inside-more (s .pre .1 .inside) (s .pre .1 .short))
 
-abbrev μ-loop : tie.MeasureT-loop
-μ-loop bits₀ b n trails o i₀ bits i = n - i
-
-loop-holds : tie.Need-loop-holds Inv-loop μ-loop
-unfolding each
-loop-holds c = ((omega arith, refl), refl)
-
-add-t : tie.Need-add-t Inv-loop μ-loop
-add-t c = omega arith
-
-mul-t : tie.Need-mul-t Inv-loop μ-loop
-mul-t c = omega arith
-
-shared-slice-read-t : tie.Need-shared-slice-read-t Inv-loop μ-loop
-shared-slice-read-t c = omega arith
-
-cast-bits : tie.Need-cast-bits Inv-loop μ-loop
-cast-bits c = omega arith
-
-add-bits : tie.Need-add-bits Inv-loop μ-loop
-add-bits c = omega arith
-
-slice-write-bits : tie.Need-slice-write-bits Inv-loop μ-loop
-slice-write-bits c = omega arith
-
-add-i : tie.Need-add-i Inv-loop μ-loop
-add-i c = omega arith
-
-loop-less : tie.Need-loop-less Inv-loop μ-loop
-loop-less c = omega arith
-
-loop-again : tie.Need-loop-again Inv-loop μ-loop
-loop-again c =
-    let l = c .before .before .loop in
-    let a = c .before .before .before .args in (
-      (omega arith, simp length-set (l .inv .0 .1)),
-      each-step (λ j. a .b + j) (λ j x. getD (a .trails .now) (a .o + j) 0 % 2) (l .bits) (a .bits .now) (l .i) (l .inv .1),
+last-by-requires : tie.Need-last-by-requires
+last-by-requires c κs =
+    let s = c .before .before .before .before .before in
+    let a = s .args in
+    let g = c .before .before .spacing-of in (
+      reaches-first (a .net) (g .result .step) (g .result .gap) (a .n) (a .trails .now) (g .ensures) (s .pre .1) (s .pre .2) 1
+          (sym (c .before .if1 .taken)),
+      s .pre .3,
     )
 
-same-length : tie.Need-same-length Inv-loop μ-loop
-same-length c = c .before .loop .inv .0 .1
+last-by-requires-2 : tie.Need-last-by-requires-2
+last-by-requires-2 c κs =
+    let s = c .before .before .before .before .before in
+    let a = s .args in
+    let g = c .before .before .spacing-of in (
+      reaches-first (a .net) (g .result .step) (g .result .gap) (a .n) (a .trails .now) (g .ensures) (s .pre .1) (s .pre .2)
+          (g .result .step) refl,
+      s .pre .3,
+    )
 
-returns : tie.Need-returns Inv-loop μ-loop
-returns c = let e : c .before .loop .i ≡ c .before .before .args .n = omega arith in rw (← e) (c .before .loop .inv .1)
+same-length : tie.Need-same-length
+same-length c = search needs
+
+returns : tie.Need-returns
+returns c =
+    let s = c .before .before .before .before .before .before .before .before in
+    let a = s .args in
+    let g = c .before .before .before .before .before .spacing-of in
+    taken (a .net) (g .result .step) (g .result .gap) 1 (g .ensures) (sym (c .before .before .before .before .if1 .taken)) (a .b) (a .n)
+    (a .trails .now) (a .bits .now) _ (c .before .before .last-by .ensures)
+
+same-length-2 : tie.Need-same-length-2
+same-length-2 c = search needs
+
+returns-2 : tie.Need-returns-2
+returns-2 c =
+    let s = c .before .before .before .before .before .before .before .before in
+    let a = s .args in
+    let g = c .before .before .before .before .before .spacing-of in
+    taken (a .net) (g .result .step) (g .result .gap) (g .result .step) (g .ensures) refl (a .b) (a .n) (a .trails .now) (a .bits .now) _
+    (c .before .before .last-by2 .ensures)
 
 pub last-bits-spec : {M : Type 1} → statement M
 last-bits-spec =
     tie.close
     (tie.spec
-    Inv-loop
-    μ-loop
-    loop-holds
-    add-t
-    mul-t
-    shared-slice-read-t
-    cast-bits
-    add-bits
-    slice-write-bits
-    add-i
-    loop-less
-    loop-again
+    spacing-of-requires
+    last-by-requires
+    last-by-requires-2
     same-length
-    returns)
+    returns
+    same-length-2
+    returns-2)
