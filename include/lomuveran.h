@@ -8,11 +8,11 @@
  * What the caller owes, as everywhere in C: a pointer is aligned, is not NULL even where the length behind it is 0, and points
  * to as many items as that length says; what a call may write overlaps nothing else that the same call is handed.
  *
- * Stack: at 1,024 places the calls need at most 14 KB of it (control_bits 13.5, permutation_combine 10.6, ranked_order 9.8 at
+ * Stack: at 1,024 places the calls need at most 15 KB of it (control_bits 14.9, permutation_combine 10.6, ranked_order 10.4 at
  * 6 places, permutation_exchange and permutation_inverse 6.5, write_sheet 4.8, shuffle and permutation_identity 4.5,
  * read_sheet 3.5, apply 2.4, apply_inverse 2.3, the others 2.1 or less), as bench/stack reads from the object code. For a thread
  * allow 20 KB, which holds the C library's own needs too: its first memcpy, where it is linked dynamically, takes some KB more
- * (control_bits and permutation_combine ran in 18 KB and not in 17; the other calls on permutations, ranked_order, apply,
+ * (control_bits ran in 19 KB and not in 18, permutation_combine in 18; the other calls on permutations, ranked_order, apply,
  * apply_inverse and write_sheet in 16). No heap. */
 #ifndef LOMUVERAN_H
 #define LOMUVERAN_H
