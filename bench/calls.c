@@ -1,5 +1,5 @@
-/* Times set, mix, return and the entry count of a library beside those of an earlier one. `once` runs one call ten times, for a
- * counter of instructions. See bench/calls. */
+/* Times set, mix, return and the entry count of a library beside those of an earlier one, and its set, mix and return in the
+ * neighbour wiring beside those in the paper's. `once` runs one call ten times, for a counter of instructions. See bench/calls. */
 #include "turns.h"
 
 #define PLACES 1024
@@ -8,7 +8,9 @@
 #define WORDS (3 * 16381)
 
 enum { SET, MIX, RETURN, ENTRIES, CALLS };
-static const char *const names[CALLS] = {"control_bits", "apply", "apply_inverse", "entries"};
+enum { PAPER, NEIGHBOUR };
+static const char *const names[2][CALLS] = {{"control_bits", "apply", "apply_inverse", "entries"},
+                                            {"neighbour_control_bits", "neighbour_apply", "neighbour_apply_inverse", "entries"}};
 static const char *const words[CALLS] = {"set", "mix", "return", "entries"};
 static void *loaded[2][OBJECTS][CALLS];
 
@@ -56,13 +58,15 @@ static void fill(size_t places, size_t bytes) {
     for (i = 0; i < n * width; i++) work.blocks[i] = (uint8_t)draw(256);
 }
 
-static void load(const char *from, int side) {
+/* an earlier library may have no neighbour wiring: its calls are looked for only where they are wanted */
+static void load(const char *from, int side, int wiring) {
     int object, c;
     for (object = 0; object < OBJECTS; object++)
-        for (c = 0; c < CALLS; c++) loaded[side][object][c] = find(from, object, names[c]);
+        for (c = 0; c < CALLS; c++) loaded[side][object][c] = find(from, object, names[wiring][c]);
 }
 
-static void line(int c, size_t places, size_t bytes) {
+/* two libraries leave the same; two wirings do not, or one of them was timed twice */
+static void line(int c, size_t places, size_t bytes, int wirings) {
     char size[64];
     called = c;
     fill(places, bytes);
@@ -70,28 +74,51 @@ static void line(int c, size_t places, size_t bytes) {
     left = work;
     fill(places, bytes);
     batch(run, 0, 1);
-    check(!memcmp(&work, &left, sizeof work), "the libraries differ");
+    check(!memcmp(&work, &left, sizeof work) == !wirings, wirings ? "the wirings do not differ" : "the libraries differ");
     snprintf(size, sizeof size, c == MIX || c == RETURN ? "%zu × %zu" : "%zu", places, bytes);
     measure(words[c], size, 2, run);
 }
 
-int main(int argc, char **argv) {
-    static const size_t places[3] = {16, 128, 1024}, widths[6] = {1, 6, 8, 16, 64, 256};
+static const size_t places[3] = {16, 128, 1024};
+
+/* now and before; one call where it is named */
+static int libraries(char **objects, const char *only) {
+    static const size_t widths[6] = {1, 6, 8, 16, 64, 256};
     int c, k, j, lines = 0;
+    for (k = 0; k < 2; k++) load(objects[k], k, PAPER);
+    heading(2);
+    for (c = 0; c < CALLS; c++)
+        for (k = 0; k < 3 && (!only || !strcmp(only, words[c])); k++)
+            for (j = 0; j < (c == MIX || c == RETURN ? 6 : 1); j++, lines++) line(c, places[k], widths[j], 0);
+    return lines;
+}
+
+/* the neighbour wiring and the paper's, of one library; the widest blocks at the most places alone */
+static void both_wirings(const char *objects) {
+    static const size_t widths[3] = {6, 64, 256};
+    int c, k, j;
+    load(objects, 0, NEIGHBOUR);
+    load(objects, 1, PAPER);
+    printf("| neighbour wiring | places | ns | paper's wiring, ns | ratio |\n|---|---|---|---|---|\n");
+    for (c = 0; c < ENTRIES; c++)
+        for (k = 0; k < 3; k++)
+            for (j = 0; j < (c == SET ? 1 : k < 2 ? 2 : 3); j++) line(c, places[k], widths[j], 1);
+}
+
+int main(int argc, char **argv) {
     if (argc == 6 && !strcmp(argv[1], "once")) { /* once OBJECTS CALL PLACES WIDTH */
-        load(argv[2], 0);
-        while (called < CALLS && strcmp(names[called], argv[3])) called++;
+        int wiring = !strncmp(argv[3], "neighbour_", 10);
+        load(argv[2], 0, wiring);
+        while (called < CALLS && strcmp(names[wiring][called], argv[3])) called++;
         check(called < CALLS, "which call?");
         fill(strtoul(argv[4], NULL, 10), strtoul(argv[5], NULL, 10));
         run(0, 0, 10);
         return 0;
     }
     check(argc == 3 || argc == 4, "which objects?");
-    for (k = 0; k < 2; k++) load(argv[1 + k], k);
-    heading(2);
-    for (c = 0; c < CALLS; c++)
-        for (k = 0; k < 3 && (argc == 3 || !strcmp(argv[3], words[c])); k++)
-            for (j = 0; j < (c == MIX || c == RETURN ? 6 : 1); j++, lines++) line(c, places[k], widths[j]);
-    check(lines > 0, "which call? set, mix, return or entries");
+    if (argc == 3 || strcmp(argv[3], "neighbour"))
+        check(libraries(argv + 1, argc == 4 ? argv[3] : NULL) > 0, "which call? set, mix, return, entries or neighbour");
+    if (argc == 3) printf("\n");
+    if (argc == 3 || !strcmp(argv[3], "neighbour")) both_wirings(argv[1]);
     return 0;
 }

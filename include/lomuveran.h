@@ -8,12 +8,14 @@
  * What the caller owes, as everywhere in C: a pointer is aligned, is not NULL even where the length behind it is 0, and points
  * to as many items as that length says; what a call may write overlaps nothing else that the same call is handed.
  *
- * Stack: at 1,024 places the calls need at most 15 KB of it (control_bits 14.9, permutation_combine 10.6, ranked_order 10.4 at
- * 6 places, permutation_exchange and permutation_inverse 6.5, write_sheet 4.8, shuffle and permutation_identity 4.5,
- * read_sheet 3.5, apply 2.4, apply_inverse 2.3, the others 2.1 or less), as bench/stack reads from the object code. For a thread
- * allow 20 KB, which holds the C library's own needs too: its first memcpy, where it is linked dynamically, takes some KB more
- * (control_bits ran in 19 KB and not in 18, permutation_combine in 18; the other calls on permutations, ranked_order, apply,
- * apply_inverse and write_sheet in 16). No heap. */
+ * Stack: at 1,024 places the calls need at most 15 KB of it (control_bits and neighbour_control_bits 14.8, permutation_combine 10.6,
+ * ranked_order 10.3 at 6 places, permutation_exchange and permutation_inverse 6.5, write_sheet 4.8, shuffle and
+ * permutation_identity 4.5, read_sheet 3.5, apply and neighbour_apply 3.3, apply_inverse and neighbour_apply_inverse 3.1, the others
+ * 2.1 or less), but to_neighbour and to_paper 115.2, since they keep a setter's log aside, as bench/stack reads from the object code.
+ * For a thread allow 20 KB, for to_neighbour and to_paper 120 KB, which holds the C library's own needs too: its first memcpy, where
+ * it is linked dynamically, takes some KB more (control_bits and neighbour_control_bits ran in 19 KB and not in 18, to_neighbour and
+ * to_paper in 117 and not in 116, permutation_combine in 18; the other calls on permutations, ranked_order, apply, apply_inverse,
+ * neighbour_apply, neighbour_apply_inverse and write_sheet in 16). No heap. */
 #ifndef LOMUVERAN_H
 #define LOMUVERAN_H
 
@@ -109,6 +111,26 @@ lomuveran_drawn lomuveran_shuffle(size_t n, const uint32_t *words, size_t word_c
  * 14's. Questions 17, 14, 13, 4, 5. Count: the entries logged. */
 lomuveran_answer lomuveran_ranked_order(size_t n, size_t r, uint16_t *order, size_t order_len, uint8_t *bits, size_t bit_count,
                                         uint16_t *log, size_t log_words);
+
+/* ---- the neighbour wiring: that of the bought archive. Switches join neighbours, places 2i and 2i + 1, and the halves of a network
+ * are its even and its odd places, where they lie; the paper's wiring, that of the calls above, joins i and half of n further.
+ * An order has another setting in each wiring, of the same length, and a setting does not say which one it is of: who mixed with
+ * these calls must return with these. Listed orders, sheets and the programs are in the paper's wiring. */
+
+/* Set, mix and return in the neighbour wiring: what is lent, the questions and the counts as of the calls above. */
+lomuveran_answer lomuveran_neighbour_control_bits(const uint16_t *order, size_t order_len, uint8_t *bits, size_t bit_count,
+                                                  uint16_t *log, size_t log_words);
+lomuveran_answer lomuveran_neighbour_apply(size_t n, size_t width, uint8_t *blocks, size_t block_bytes, const uint8_t *bits,
+                                           size_t bit_count, uint16_t *log, size_t log_words);
+lomuveran_answer lomuveran_neighbour_apply_inverse(size_t n, size_t width, uint8_t *blocks, size_t block_bytes,
+                                                   const uint8_t *bits, size_t bit_count, uint16_t *log, size_t log_words);
+
+/* The converter: the setting of the same order in the other wiring, as control_bits of that wiring sets it, over all of out.
+ * to_neighbour is given a setting of the paper's wiring, to_paper one of the neighbour wiring; any bits are taken, not only those
+ * that were set. given_count and out_count: exactly the switches of n places. The bits are treated as secrets: the one decision
+ * that follows them is question 7's. Keeps no log. Questions 1, 4 of given, 4 of out, 7. Count: 0. */
+lomuveran_answer lomuveran_to_neighbour(size_t n, const uint8_t *given, size_t given_count, uint8_t *out, size_t out_count);
+lomuveran_answer lomuveran_to_paper(size_t n, const uint8_t *given, size_t given_count, uint8_t *out, size_t out_count);
 
 /* ---- sheets */
 

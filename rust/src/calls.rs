@@ -2,6 +2,24 @@
 
 use crate::{ffi, Refusal};
 
+// Set, mix or return, and the converter, in either wiring.
+
+fn set(call: ffi::Set, order: &[u16], bits: &mut [u8], log: &mut [u16]) -> Result<usize, Refusal> {
+    // SAFETY: each pointer goes with its slice's length, and the borrows keep the slices apart. The same holds below.
+    unsafe { call(order.as_ptr(), order.len(), bits.as_mut_ptr(), bits.len(), log.as_mut_ptr(), log.len()) }.count()
+}
+
+fn moved(call: ffi::Move, n: usize, width: usize, blocks: &mut [u8], bits: &[u8], log: &mut [u16]) -> Result<usize, Refusal> {
+    let (to, filled) = (blocks.as_mut_ptr(), blocks.len());
+    // SAFETY: as above.
+    unsafe { call(n, width, to, filled, bits.as_ptr(), bits.len(), log.as_mut_ptr(), log.len()) }.count()
+}
+
+fn converted(call: ffi::Convert, n: usize, given: &[u8], out: &mut [u8]) -> Result<usize, Refusal> {
+    // SAFETY: as above.
+    unsafe { call(n, given.as_ptr(), given.len(), out.as_mut_ptr(), out.len()) }.count()
+}
+
 /// How many switches n places have, and so how many bits a setting.
 ///
 /// ```
@@ -33,11 +51,7 @@ pub fn entries(n: usize) -> Result<usize, Refusal> {
 /// assert_eq!(bits, [0, 1, 1]);
 /// ```
 pub fn control_bits(order: &[u16], bits: &mut [u8], log: &mut [u16]) -> Result<usize, Refusal> {
-    // SAFETY: each pointer goes with its slice's length, and the borrows keep the slices apart. The same holds below.
-    unsafe {
-        ffi::lomuveran_control_bits(order.as_ptr(), order.len(), bits.as_mut_ptr(), bits.len(), log.as_mut_ptr(), log.len())
-    }
-    .count()
+    set(ffi::lomuveran_control_bits, order, bits, log)
 }
 
 /// Moves n blocks of `width` bytes through the network, in place. Questions 1, 2, 3, 4, 5, 7. Gives the number of entries
@@ -50,20 +64,7 @@ pub fn control_bits(order: &[u16], bits: &mut [u8], log: &mut [u16]) -> Result<u
 /// assert_eq!(log, [7, 0, 2, 7, 0, 1, 7, 0, 2]);
 /// ```
 pub fn apply(n: usize, width: usize, blocks: &mut [u8], bits: &[u8], log: &mut [u16]) -> Result<usize, Refusal> {
-    // SAFETY: as above.
-    unsafe {
-        ffi::lomuveran_apply(
-            n,
-            width,
-            blocks.as_mut_ptr(),
-            blocks.len(),
-            bits.as_ptr(),
-            bits.len(),
-            log.as_mut_ptr(),
-            log.len(),
-        )
-    }
-    .count()
+    moved(ffi::lomuveran_apply, n, width, blocks, bits, log)
 }
 
 /// Moves them back. As [`apply`].
@@ -74,20 +75,7 @@ pub fn apply(n: usize, width: usize, blocks: &mut [u8], bits: &[u8], log: &mut [
 /// assert_eq!(&blocks, b"abc");
 /// ```
 pub fn apply_inverse(n: usize, width: usize, blocks: &mut [u8], bits: &[u8], log: &mut [u16]) -> Result<usize, Refusal> {
-    // SAFETY: as above.
-    unsafe {
-        ffi::lomuveran_apply_inverse(
-            n,
-            width,
-            blocks.as_mut_ptr(),
-            blocks.len(),
-            bits.as_ptr(),
-            bits.len(),
-            log.as_mut_ptr(),
-            log.len(),
-        )
-    }
-    .count()
+    moved(ffi::lomuveran_apply_inverse, n, width, blocks, bits, log)
 }
 
 /// What [`shuffle`] drew.
@@ -144,6 +132,71 @@ pub fn ranked_order(n: usize, r: usize, order: &mut [u16], bits: &mut [u8], log:
         )
     }
     .count()
+}
+
+/// [`control_bits`] in the neighbour wiring: that of the bought archive, whose switches join neighbours. Questions and log as
+/// there. A setting does not say which wiring it is of: [`NeighbourSetting`](crate::NeighbourSetting) keeps them apart.
+///
+/// ```
+/// let (mut bits, mut log) = ([0; 3], [0; 33]);
+/// assert_eq!(lomuveran::neighbour_control_bits(&[1, 2, 0], &mut bits, &mut log), Ok(11));
+/// assert_eq!(bits, [1, 1, 0]);
+/// ```
+pub fn neighbour_control_bits(order: &[u16], bits: &mut [u8], log: &mut [u16]) -> Result<usize, Refusal> {
+    set(ffi::lomuveran_neighbour_control_bits, order, bits, log)
+}
+
+/// [`apply`] in the neighbour wiring.
+///
+/// ```
+/// let (mut blocks, mut log) = (*b"abc", [0; 9]);
+/// assert_eq!(lomuveran::neighbour_apply(3, 1, &mut blocks, &[1, 1, 0], &mut log), Ok(3));
+/// assert_eq!(&blocks, b"cab");
+/// assert_eq!(log, [7, 0, 1, 7, 0, 2, 7, 0, 1]);
+/// ```
+pub fn neighbour_apply(n: usize, width: usize, blocks: &mut [u8], bits: &[u8], log: &mut [u16]) -> Result<usize, Refusal> {
+    moved(ffi::lomuveran_neighbour_apply, n, width, blocks, bits, log)
+}
+
+/// [`apply_inverse`] in the neighbour wiring.
+///
+/// ```
+/// let (mut blocks, mut log) = (*b"cab", [0; 9]);
+/// assert_eq!(lomuveran::neighbour_apply_inverse(3, 1, &mut blocks, &[1, 1, 0], &mut log), Ok(3));
+/// assert_eq!(&blocks, b"abc");
+/// ```
+pub fn neighbour_apply_inverse(
+    n: usize,
+    width: usize,
+    blocks: &mut [u8],
+    bits: &[u8],
+    log: &mut [u16],
+) -> Result<usize, Refusal> {
+    moved(ffi::lomuveran_neighbour_apply_inverse, n, width, blocks, bits, log)
+}
+
+/// From a setting of the paper's wiring the neighbour wiring's canonical setting of the same order, over all of `out`. Any bits
+/// are taken, canonical or not; `given` and `out` have exactly as many bytes as there are switches. Questions 1, 4 of `given`,
+/// 4 of `out`, 7. Keeps no log and gives 0.
+///
+/// ```
+/// let mut out = [0; 3];
+/// assert_eq!(lomuveran::to_neighbour(3, &[0, 1, 1], &mut out), Ok(0));
+/// assert_eq!(out, [1, 1, 0]);
+/// ```
+pub fn to_neighbour(n: usize, given: &[u8], out: &mut [u8]) -> Result<usize, Refusal> {
+    converted(ffi::lomuveran_to_neighbour, n, given, out)
+}
+
+/// The other way: from a setting of the neighbour wiring. As [`to_neighbour`].
+///
+/// ```
+/// let mut out = [0; 3];
+/// assert_eq!(lomuveran::to_paper(3, &[1, 1, 0], &mut out), Ok(0));
+/// assert_eq!(out, [0, 1, 1]);
+/// ```
+pub fn to_paper(n: usize, given: &[u8], out: &mut [u8]) -> Result<usize, Refusal> {
+    converted(ffi::lomuveran_to_paper, n, given, out)
 }
 
 /// The sheet of a setting, over the front of `out`. Questions 1, 4, 7, 13. Gives the number of bytes written.

@@ -56,6 +56,13 @@ impl Record {
     }
 }
 
+/// Set, in either wiring.
+pub type Set = unsafe extern "C" fn(*const u16, usize, *mut u8, usize, *mut u16, usize) -> Answer;
+/// Mix or return, in either wiring.
+pub type Move = unsafe extern "C" fn(usize, usize, *mut u8, usize, *const u8, usize, *mut u16, usize) -> Answer;
+/// The converter, from either wiring.
+pub type Convert = unsafe extern "C" fn(usize, *const u8, usize, *mut u8, usize) -> Answer;
+
 extern "C" {
     pub fn lomuveran_switches(n: usize) -> Answer;
     pub fn lomuveran_entries(n: usize) -> Answer;
@@ -98,6 +105,36 @@ extern "C" {
         log: *mut u16,
         log_words: usize,
     ) -> Answer;
+    pub fn lomuveran_neighbour_control_bits(
+        order: *const u16,
+        order_len: usize,
+        bits: *mut u8,
+        bit_count: usize,
+        log: *mut u16,
+        log_words: usize,
+    ) -> Answer;
+    pub fn lomuveran_neighbour_apply(
+        n: usize,
+        width: usize,
+        blocks: *mut u8,
+        block_bytes: usize,
+        bits: *const u8,
+        bit_count: usize,
+        log: *mut u16,
+        log_words: usize,
+    ) -> Answer;
+    pub fn lomuveran_neighbour_apply_inverse(
+        n: usize,
+        width: usize,
+        blocks: *mut u8,
+        block_bytes: usize,
+        bits: *const u8,
+        bit_count: usize,
+        log: *mut u16,
+        log_words: usize,
+    ) -> Answer;
+    pub fn lomuveran_to_neighbour(n: usize, given: *const u8, given_count: usize, out: *mut u8, out_count: usize) -> Answer;
+    pub fn lomuveran_to_paper(n: usize, given: *const u8, given_count: usize, out: *mut u8, out_count: usize) -> Answer;
     pub fn lomuveran_write_sheet(n: usize, bits: *const u8, bit_count: usize, out: *mut u8, out_len: usize) -> Answer;
     pub fn lomuveran_read_sheet(input: *const u8, input_len: usize, bits: *mut u8, bit_count: usize) -> Answer;
     pub fn lomuveran_read_number(input: *const u8, input_len: usize, at: usize) -> Number;

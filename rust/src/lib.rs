@@ -4,20 +4,26 @@
 //! [`Setting`] and [`Permutation`] own their memory and are what most programs need; [`Permutation::ranked`] gives any order
 //! of a few places by its number. The functions are the library's calls as they are, on lent slices. Each call asks its
 //! questions in a fixed sequence; the first no is the [`Refusal`].
+//!
+//! There are two wirings of the network: the paper's, that of [`Setting`] and of sheets, and the neighbour wiring of the bought
+//! archive, that of [`NeighbourSetting`]. Each setting becomes one of the other wiring that does the same.
 
 #![warn(missing_docs)]
 #![deny(unsafe_op_in_unsafe_fn)]
 
 mod calls;
 mod ffi;
+mod neighbour;
 mod permutation;
 mod refusal;
 mod setting;
 
 pub use calls::{
-    apply, apply_inverse, control_bits, entries, gauge_report, ranked_order, read_number, read_sheet, shuffle, switches,
-    write_sheet, Drawn, Figures, Number,
+    apply, apply_inverse, control_bits, entries, gauge_report, neighbour_apply, neighbour_apply_inverse,
+    neighbour_control_bits, ranked_order, read_number, read_sheet, shuffle, switches, to_neighbour, to_paper, write_sheet,
+    Drawn, Figures, Number,
 };
+pub use neighbour::NeighbourSetting;
 pub use permutation::Permutation;
 pub use refusal::Refusal;
 pub use setting::{Entry, Setting};

@@ -1,10 +1,31 @@
-use crate::{calls, Permutation, Refusal, MAX_SHEET, MAX_SWITCHES};
+use crate::{calls, NeighbourSetting, Permutation, Refusal, MAX_SHEET, MAX_SWITCHES};
 use std::fmt;
 
 /// An entry of a log: its kind and two numbers.
 pub type Entry = [u16; 3];
 
+/// Set of a permutation by the call of a wiring: the bits and the log.
+pub(crate) fn set_by(
+    call: fn(&[u16], &mut [u8], &mut [u16]) -> Result<usize, Refusal>,
+    order: &Permutation,
+) -> (Vec<u8>, Vec<Entry>) {
+    const NEVER: &str = "a permutation is never refused";
+    let places = order.entries().len();
+    let mut bits = vec![0; calls::switches(places).expect(NEVER)];
+    let mut log = vec![[0; 3]; calls::entries(places).expect(NEVER)];
+    call(order.entries(), &mut bits, log.as_flattened_mut()).expect(NEVER);
+    (bits, log)
+}
+
+/// The bits that do in the other wiring what a setting's bits do in its own.
+pub(crate) fn convert_by(call: fn(usize, &[u8], &mut [u8]) -> Result<usize, Refusal>, places: usize, bits: &[u8]) -> Vec<u8> {
+    let mut out = vec![0; bits.len()];
+    call(places, bits, &mut out).expect("a setting is never refused");
+    out
+}
+
 /// The setting of a network of n places: what mixes blocks and puts them back. It is a secret, so its `Debug` shows n alone.
+/// Its wiring is the paper's; [`NeighbourSetting`] is one of the neighbour wiring.
 ///
 /// ```
 /// # fn main() -> Result<(), lomuveran::Refusal> {
@@ -45,12 +66,8 @@ impl Setting {
     /// assert_eq!(log, [[5, 0, 2], [6, 0, 2]]);
     /// ```
     pub fn control_bits_logged(order: &Permutation) -> (Setting, Vec<Entry>) {
-        const NEVER: &str = "a permutation is never refused";
-        let places = order.entries().len();
-        let mut bits = vec![0; calls::switches(places).expect(NEVER)];
-        let mut log = vec![[0; 3]; calls::entries(places).expect(NEVER)];
-        calls::control_bits(order.entries(), &mut bits, log.as_flattened_mut()).expect(NEVER);
-        (Setting { places, bits }, log)
+        let (bits, log) = set_by(calls::control_bits, order);
+        (Setting { places: order.entries().len(), bits }, log)
     }
 
     /// A setting from its bits. Questions 1, 4, 7.
@@ -78,6 +95,22 @@ impl Setting {
         let mut log = vec![[0; 3]; self.bits.len()];
         calls::apply_inverse(self.places, width, blocks, &self.bits, log.as_flattened_mut())?;
         Ok(log)
+    }
+
+    /// The setting of the neighbour wiring that does the same: the canonical one of this setting's order.
+    ///
+    /// ```
+    /// use lomuveran::Setting;
+    ///
+    /// assert_eq!(Setting::from_bits(3, &[0, 1, 1]).unwrap().to_neighbour().bits(), [1, 1, 0]);
+    /// ```
+    pub fn to_neighbour(&self) -> NeighbourSetting {
+        NeighbourSetting::of(self.places, convert_by(calls::to_neighbour, self.places, &self.bits))
+    }
+
+    // bits that are known to be a setting of so many places
+    pub(crate) fn of(places: usize, bits: Vec<u8>) -> Setting {
+        Setting { places, bits }
     }
 
     /// The sheet: all that is needed to put the blocks back (docs/RULE.md).

@@ -2,7 +2,7 @@
 
 mod common;
 
-use common::{bytes, plain, seen, Random, Tally};
+use common::{bytes, plain, plain::Paper, seen, Random, Tally};
 use std::collections::BTreeSet;
 
 /// One call.
@@ -73,7 +73,7 @@ fn mixed_and_returned() {
         let gauges = asked(&mut random, &home);
         let must: Vec<_> = gauges.iter().map(|gauge| lomuveran::gauge_report(n, 6, &home, *gauge)).collect();
         for _ in 0..3 {
-            let bits: Vec<u8> = plain::switches(n, 0).iter().map(|_| random.below(2) as u8).collect();
+            let bits: Vec<u8> = plain::switches(Paper, n).iter().map(|_| random.below(2) as u8).collect();
             let (mut blocks, mut log) = (home.clone(), vec![0; 3 * bits.len()]);
             for call in [lomuveran::apply, lomuveran::apply, lomuveran::apply_inverse, lomuveran::apply_inverse] {
                 call(n, 6, &mut blocks, &bits, &mut log).unwrap();

@@ -2,7 +2,7 @@
 
 mod common;
 
-use common::{bytes, plain, seen, words, Random, Tally};
+use common::{bytes, plain, plain::Paper, seen, words, Random, Tally};
 use lomuveran::{Permutation, Setting};
 
 /// One call. `listed` is the own listing of n places; the buffers begin with other contents.
@@ -21,7 +21,7 @@ fn rank(tally: &mut Tally, random: &mut Random, listed: &[Vec<u16>], n: usize, r
 
 /// The entries of the order's list, the bits and the words of the log that n places need.
 fn needs(n: usize) -> [usize; 3] {
-    [n, plain::switches(n, 0).len(), 3 * plain::set_entries(n, 0).len()]
+    [n, plain::switches(Paper, n).len(), 3 * plain::set_entries(Paper, n).len()]
 }
 
 #[test]
@@ -51,7 +51,7 @@ fn orders_with_their_settings() {
             tally.same(order.fixed_points(), plain::at_home(list), (n, r));
             tally.same(&order, &Permutation::from_list(list).unwrap(), (n, r));
             tally.same(&setting, &Setting::control_bits(&order), (n, r));
-            tally.same((setting.places(), setting.bits()), (n, &plain::setting(list)[..]), (n, r));
+            tally.same((setting.places(), setting.bits()), (n, &plain::setting(Paper, list)[..]), (n, r));
             let width = 1 + random.below(9);
             let home = random.bytes(n * width);
             let mut blocks = home.clone();

@@ -3,7 +3,7 @@
 
 mod common;
 
-use common::{all_orders, plain, seen, words, Random, Tally};
+use common::{all_orders, plain, plain::Paper, seen, words, Random, Tally};
 use lomuveran::{Permutation, Refusal};
 
 /// The entries, and the number that goes with them.
@@ -187,14 +187,15 @@ fn limits() {
 fn counts() {
     let mut tally = Tally::default();
     for n in 0..=1024 {
-        tally.same(seen(lomuveran::switches(n)), Ok(plain::switches(n, 0).len()), n);
-        tally.same(seen(lomuveran::entries(n)), Ok(plain::set_entries(n, 0).len()), n);
+        tally.same(seen(lomuveran::switches(n)), Ok(plain::switches(Paper, n).len()), n);
+        tally.same(seen(lomuveran::entries(n)), Ok(plain::set_entries(Paper, n).len()), n);
     }
     for n in [1025, 1026, 65536, 1 << 32, usize::MAX] {
         tally.same(seen(lomuveran::switches(n)), Err((1, 0)), n);
         tally.same(seen(lomuveran::entries(n)), Err((1, 0)), n);
     }
-    let longest = (0..=1024).map(|n| plain::write(n, &vec![1; plain::switches(n, 0).len()], usize::MAX).unwrap().len()).max();
+    let full = |n| plain::write(n, &vec![1; plain::switches(Paper, n).len()], usize::MAX).unwrap();
+    let longest = (0..=1024).map(|n| full(n).len()).max();
     tally.same(longest, Some(lomuveran::MAX_SHEET), "the longest sheet");
     tally.same(seen(lomuveran::switches(1024)), Ok(lomuveran::MAX_SWITCHES), "the most switches");
     tally.same(seen(lomuveran::entries(1024)), Ok(lomuveran::MAX_ENTRIES), "the most entries");

@@ -2,7 +2,7 @@
 
 mod common;
 
-use common::{bytes, plain, seen, Random, Tally};
+use common::{bytes, plain, plain::Paper, seen, Random, Tally};
 use lomuveran::Setting;
 
 fn write(tally: &mut Tally, random: &mut Random, n: usize, bits: &[u8], room: usize) {
@@ -28,7 +28,7 @@ fn setting(random: &mut Random, n: usize) -> Vec<u8> {
         0 | 1 => kind as u8,
         _ => random.below(2) as u8,
     };
-    (0..plain::switches(n, 0).len()).map(|_| bit(random)).collect()
+    (0..plain::switches(Paper, n).len()).map(|_| bit(random)).collect()
 }
 
 #[test]
@@ -119,7 +119,7 @@ fn settings_own_their_sheets() {
         let back = Setting::read_sheet(&made.write_sheet()).unwrap();
         tally.same((back.places(), back.bits()), (n, &bits[..]), n);
         let mut blocks = random.bytes(n * 3);
-        let must = plain::scattered(&plain::carried(n, &bits), 3, &blocks);
+        let must = plain::scattered(&plain::carried(Paper, n, &bits), 3, &blocks);
         let before = blocks.clone();
         tally.same(back.apply(3, &mut blocks).unwrap().len(), bits.len(), n);
         tally.same(&blocks, &must, n);

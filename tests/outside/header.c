@@ -1,33 +1,7 @@
 /* The header against the library: sizes and layout, each prototype, an accepted call of each, every refusal of the calls on
- * permutations, of the chart and of listed orders, and memory around what is lent. Compiled as C and as C++. */
-#include "lomuveran.h"
-
-#include <stdio.h>
-#include <string.h>
-
-static int compared, wrong;
-
-static void same(size_t is, size_t must, const char *what, int line) {
-    compared++;
-    if (is != must) {
-        wrong++;
-        printf("header.c:%d: %s is %zu, must be %zu\n", line, what, is, must);
-    }
-}
-
-static void alike(const void *is, const void *must, size_t bytes, const char *what, int line) {
-    same(memcmp(is, must, bytes) == 0, 1, what, line);
-}
-
-#define SAME(is, must) same(is, must, #is, __LINE__)
-#define ALIKE(is, must) alike(is, must, sizeof(is), #is, __LINE__)
-#define ANSWER(a, n, p, c) \
-    do { \
-        lomuveran_answer got = a; \
-        same(got.number, n, #a " .number", __LINE__); \
-        same(got.place, p, #a " .place", __LINE__); \
-        same(got.count, c, #a " .count", __LINE__); \
-    } while (0)
+ * permutations, of the chart and of listed orders, and memory around what is lent; the neighbour wiring is neighbour.c's. Compiled as
+ * C and as C++. */
+#include "compare.h"
 
 #define RECORD(r, n, p, f) \
     do { \

@@ -91,6 +91,32 @@ def mix(sheet, blocks):
     return exchange(blocks, read_sheet(sheet)[1])
 
 
+# Blocks of the bought archive
+
+def neighbour_switches(m, o, d):
+    if m < 2:
+        return []
+    k = (m + 1) // 2
+    pairs = [(o + 2 * i * d, o + 2 * i * d + d) for i in range(k)]
+    return pairs[:k - 1] + neighbour_switches(k, o, 2 * d) + neighbour_switches(m - k, o + d, 2 * d) + pairs[:m - k]
+
+
+def bought_steps(n, bits):
+    """Each switch of the neighbour wiring with its bit, in their sequence."""
+    listed = neighbour_switches(n, 0, 1)
+    if len(bits) != len(listed):
+        raise ValueError(f'{len(bits)} bits, and {n} places have {len(listed)} switches')
+    return list(zip(listed, bits))
+
+
+def put_back_bought(bits, mixed):
+    return exchange(mixed, reversed(bought_steps(len(mixed), bits)))
+
+
+def mix_bought(bits, blocks):
+    return exchange(blocks, bought_steps(len(blocks), bits))
+
+
 def cut(data, n):
     """n blocks of one width."""
     if n == 0 and data or n and len(data) % n:

@@ -1,13 +1,25 @@
 // Accepted calls of the library with their secrets marked undefined, to be run under valgrind (see `run`).
-//   driver set|mix|return|chart|rank N,N.. WIDTH,WIDTH.. SEED
-// Secret are the order's entries (set), the bits and the bytes of the blocks (mix, return), the bytes of the blocks (chart), the
-// number of the order and so all that comes of it (rank).
+//   driver [neighbour-]set|[neighbour-]mix|[neighbour-]return|to-neighbour|to-paper|chart|rank N,N.. WIDTH,WIDTH.. SEED
+// Secret are the order's entries (set), the bits and the bytes of the blocks (mix, return), the bits (the converter), the bytes of the
+// blocks (chart), the number of the order and so all that comes of it (rank).
 // SEED 0: the order that moves nothing, or bits and bytes 0; 1: the reverse order, or bits and bytes 1; else drawn.
 #include "lomuveran.h"
 #include <stdio.h>
 #include <stdlib.h>
 #include <string.h>
 #include <valgrind/memcheck.h>
+
+typedef lomuveran_answer setting(const uint16_t *, size_t, uint8_t *, size_t, uint16_t *, size_t);
+typedef lomuveran_answer moving(size_t, size_t, uint8_t *, size_t, const uint8_t *, size_t, uint16_t *, size_t);
+typedef lomuveran_answer converting(size_t, const uint8_t *, size_t, uint8_t *, size_t);
+static const struct wiring {
+    setting *set;
+    moving *mix, *back;
+    converting *convert; // into the other
+} wirings[2] = {
+    {lomuveran_control_bits, lomuveran_apply, lomuveran_apply_inverse, lomuveran_to_neighbour},
+    {lomuveran_neighbour_control_bits, lomuveran_neighbour_apply, lomuveran_neighbour_apply_inverse, lomuveran_to_paper},
+};
 
 static uint64_t state;
 static size_t drawn(size_t below) {
@@ -40,7 +52,7 @@ __attribute__((noinline)) void trace_ends(void) { __asm__ volatile(""); }
 
 static size_t calls, asked, wrong, in_log, in_answer; // asked: calls in which there is something secret to decide on
 
-static void one(char op, size_t n, size_t width, size_t seed) {
+static void one(const struct wiring *calls_of, char op, size_t n, size_t width, size_t seed) {
     size_t w = switches(n), words = 3 * (op == 's' ? entries(n) : w);
     uint16_t *order = room(2 * n), *kept = room(2 * n), *log = room(2 * words), *log2 = room(6 * w);
     uint8_t *blocks = room(n * width), *was = room(n * width), *bits = room(w);
@@ -58,19 +70,42 @@ static void one(char op, size_t n, size_t width, size_t seed) {
     if (op == 's') hide(order, 2 * n);
     else hide(blocks, n * width), hide(bits, w);
     trace_begins();
-    if (op == 's') r = lomuveran_control_bits(order, n, bits, w, log, words);
-    else if (op == 'm') r = lomuveran_apply(n, width, blocks, n * width, bits, w, log, words);
-    else r = lomuveran_apply_inverse(n, width, blocks, n * width, bits, w, log, words);
+    if (op == 's') r = calls_of->set(order, n, bits, w, log, words);
+    else if (op == 'm') r = calls_of->mix(n, width, blocks, n * width, bits, w, log, words);
+    else r = calls_of->back(n, width, blocks, n * width, bits, w, log, words);
     trace_ends();
     in_log += depends(log, 2 * words), in_answer += depends(&r, sizeof r);
     show(order, 2 * n), show(blocks, n * width), show(bits, w);
     wrong += r.number != 0 || 3 * r.count != words;
     // the other way round, or the mix that was set, gives what it must
-    if (op == 'm') lomuveran_apply_inverse(n, width, blocks, n * width, bits, w, log2, 3 * w);
-    else lomuveran_apply(n, width, blocks, n * width, bits, w, log2, 3 * w);
+    if (op == 'm') calls_of->back(n, width, blocks, n * width, bits, w, log2, 3 * w);
+    else calls_of->mix(n, width, blocks, n * width, bits, w, log2, 3 * w);
     for (size_t i = 0; i < n; i++) wrong += memcmp(blocks + (op == 's' ? kept[i] : i) * width, was + i * width, width) != 0;
     calls++, asked += op == 's' ? n > 0 : w > 0;
     free(order), free(kept), free(log), free(log2), free(blocks), free(was), free(bits);
+}
+
+// a setting converted: in the other wiring it moves the numbers of the places alike
+static void convert(const struct wiring *from, const struct wiring *to, size_t n, size_t seed) {
+    size_t w = switches(n);
+    uint8_t *given = room(w), *out = room(w);
+    uint16_t *here = room(2 * n), *there = room(2 * n), *log = room(6 * w);
+    state = seed;
+    for (size_t i = 0; i < w; i++) given[i] = (uint8_t)(seed > 1 ? drawn(2) : seed);
+    hide(given, w);
+    trace_begins();
+    lomuveran_answer r = from->convert(n, given, w, out, w);
+    trace_ends();
+    in_answer += depends(&r, sizeof r);
+    wrong += depends(out, w) == 0 && w > 0 && tracked(); // or the bits were no secret
+    show(given, w);
+    wrong += r.number != 0 || r.count != 0;
+    for (size_t i = 0; i < n; i++) here[i] = there[i] = (uint16_t)i;
+    from->mix(n, 2, (uint8_t *)here, 2 * n, given, w, log, 3 * w);
+    to->mix(n, 2, (uint8_t *)there, 2 * n, out, w, log, 3 * w);
+    wrong += memcmp(here, there, 2 * n) != 0;
+    calls++, asked += w > 0;
+    free(given), free(out), free(here), free(there), free(log);
 }
 
 // a gauge's report on drawn blocks of four gauges
@@ -114,13 +149,20 @@ static void rank(size_t n, size_t seed) {
     free(order), free(log), free(log2), free(bits), free(blocks);
 }
 
+static void call(const char *op, size_t n, size_t width, size_t seed) {
+    int neighbour = !strncmp(op, "neighbour-", 10);
+    if (!strcmp(op, "chart")) chart(n, width, seed);
+    else if (!strcmp(op, "rank")) rank(n, seed);
+    else if (!strcmp(op, "to-neighbour")) convert(&wirings[0], &wirings[1], n, seed);
+    else if (!strcmp(op, "to-paper")) convert(&wirings[1], &wirings[0], n, seed);
+    else one(&wirings[neighbour], op[neighbour ? 10 : 0], n, width, seed);
+}
+
 int main(int argc, char **argv) {
     if (argc != 5) return 2;
     for (char *n = argv[2]; n; n = strchr(n, ',') ? strchr(n, ',') + 1 : 0)
         for (char *w = argv[3]; w; w = strchr(w, ',') ? strchr(w, ',') + 1 : 0)
-            if (argv[1][0] == 'c') chart(strtoul(n, 0, 10), strtoul(w, 0, 10), strtoul(argv[4], 0, 10));
-            else if (!strcmp(argv[1], "rank")) rank(strtoul(n, 0, 10), strtoul(argv[4], 0, 10));
-            else one(argv[1][0], strtoul(n, 0, 10), strtoul(w, 0, 10), strtoul(argv[4], 0, 10));
+            call(argv[1], strtoul(n, 0, 10), strtoul(w, 0, 10), strtoul(argv[4], 0, 10));
     printf("%zu calls, %zu with secrets, %zu wrong, %zu log bytes and %zu answer bytes from a secret\n", calls, asked, wrong,
            in_log, in_answer);
     return wrong ? 5 : in_log || in_answer ? 4 : 0;

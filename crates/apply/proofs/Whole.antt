@@ -1,4 +1,4 @@
--- From the run of the whole network to what a call comes to.
+-- From the run of the whole network to what a call comes to, in each wiring.
 -- Assumes nothing.
 use mathlib.Core.Path.{_≡_, sym, ap, _∙_, fun-ext}
 use mathlib.Core.List.{List, [], reverse}
@@ -14,22 +14,21 @@ use Rattle.answers.specs.Outcomes.{answerOf, logged, settledLogged}
 use Rattle.answers.proofs.Buffers.{overlay-whole}
 use Rattle.answers.proofs.Outcomes.{logged-accepted}
 use Rattle.counts.specs.Counts.{W}
-use Rattle.network.specs.Wiring.{paper}
 use Rattle.network.specs.Network.{network}
 use Rattle.network.specs.Move.{forward, backward}
 use Rattle.network.specs.Blocks.{cut, bytesOf, moved, movedBack}
 use Rattle.network.specs.Log.{Entry, words, switches, applyEntries, inverseEntries, runFrom, runApply, runInverse}
-use Rattle.network.proofs.Paper.{paper-lawful}
 use Rattle.network.proofs.Blocks.{length-cut, bytes-cut}
 use Rattle.network.proofs.Run.{run-apply}
 use Rattle.network.proofs.RunBack.{run-inverse}
 use Rattle.network.proofs.Shift.{shifted-none}
-use Rattle.wirings.specs.declared.Topology.the-variants.{Paper}
+use Rattle.wirings.specs.declared.Topology.{Topology}
 use Rattle.wirings.specs.Nets.{wiringOf, wholeOf, Inside}
+use Rattle.wirings.proofs.Halves.{lawful}
 use Rattle.apply_layers.specs.Ran.{blocksIn, Lent, Ran, bitAt, bitBack, switchesOf}
 use Rattle.apply_layers.proofs.Runs.{many}
 use Rattle.apply_questions.specs.Questions.{applyQuestions}
-use Rattle.apply.specs.Calls.{applyCall, inverseCall}
+use Rattle.apply.specs.Calls.{applyCallIn, inverseCallIn}
 use Rattle.apply_questions.proofs.Asked.{Fits, passes, asked-well}
 
 -- a first no: the answer of the questions, and both buffers as they were
@@ -39,9 +38,9 @@ turned-away allYes count words b entries l e h = absurd (h (ap (λ a. a .number)
 turned-away (noAt q p) count words b entries l e h = rw e
 
 -- the switches of the whole are all entries
-all-switches : (n : ℕ) → switchesOf (wholeOf Paper n) ≡ applyEntries paper n
-unfolding wiringOf applyEntries
-all-switches n = ap (switches paper (network n)) (fun-ext (λ i. let e : i * 1 ≡ i = omega arith in e))
+all-switches : (t : Topology) (n : ℕ) → switchesOf (wholeOf t n) ≡ applyEntries (wiringOf t) n
+unfolding applyEntries
+all-switches t n = ap (switches (wiringOf t) (network n)) (fun-ext (λ i. let e : i * 1 ≡ i = omega arith in e))
 
 -- every question got a yes, and all entries of n places were run: what they leave is `after`
 settles : (n width : ℕ) {b l b′ l′ : List ℕ} {bit : ℕ → ℕ} {es : List Entry} {count : ℕ} {a : Answer} (v : Verdict)
@@ -57,18 +56,16 @@ settles n width {b} {l} {b′} {l′} {bit} {es} v after asked told all low fill
     (sym bytes ∙ sym (overlay-whole b (bytesOf after) (ap length bytes ∙ kept)))
     (ran .logged ∙ ap (λ t. overlay l 0 (words t)) (shifted-none es))
 
-module _ (n width : ℕ) (b bits l : List ℕ) where
+module _ (t : Topology) (n width : ℕ) (b bits l : List ℕ) where
   abbrev verdict : Verdict
   verdict = firstNo (applyQuestions n width (length b) bits (length l))
 
   module _ {asked : Answer} (told : asked ≡ answerOf verdict 0) where
-    pub apply-refused : (asked .number ≡ 0 → ⊥) → logged asked b l ≡ applyCall n width b bits l
-    unfolding applyCall
-    apply-refused h = turned-away verdict (W n) (moved paper n width bits b) b (words (applyEntries paper n)) l told h
+    pub apply-refused : (asked .number ≡ 0 → ⊥) → logged asked b l ≡ applyCallIn (wiringOf t) n width b bits l
+    apply-refused h = turned-away verdict (W n) (moved (wiringOf t) n width bits b) b (words (applyEntries (wiringOf t) n)) l told h
 
-    pub inverse-refused : (asked .number ≡ 0 → ⊥) → logged asked b l ≡ inverseCall n width b bits l
-    unfolding inverseCall
-    inverse-refused h = turned-away verdict (W n) (movedBack paper n width bits b) b (words (inverseEntries paper n)) l told h
+    pub inverse-refused : (asked .number ≡ 0 → ⊥) → logged asked b l ≡ inverseCallIn (wiringOf t) n width b bits l
+    inverse-refused h = turned-away verdict (W n) (movedBack (wiringOf t) n width bits b) b (words (inverseEntries (wiringOf t) n)) l told h
 
     module _ (z : asked .number ≡ 0) where
       well : verdict ≡ allYes
@@ -77,7 +74,7 @@ module _ (n width : ℕ) (b bits l : List ℕ) where
       fits : Fits n width (length b) bits (length l)
       fits = passes n width (length b) bits (length l) well
 
-      pub lent : Lent width 0 (W n) 0 b bits l × Inside (0 + blocksIn width b) (wholeOf Paper n)
+      pub lent : Lent width 0 (W n) 0 b bits l × Inside (0 + blocksIn width b) (wholeOf t n)
       lent =
           let f = fits in
           let all = many n width b (f .low) (f .whole) in (
@@ -95,21 +92,21 @@ module _ (n width : ℕ) (b bits l : List ℕ) where
 
       module _ {b′ l′ : List ℕ} {count : ℕ} {a : Answer} (reports : a ≡ accepted count) (counted : count ≡ 0 + W n)
           (kept : length b′ ≡ length b) where
-        pub apply-settles : Ran width (bitAt bits) (switchesOf (wholeOf Paper n)) 0 0 b l b′ l′ → logged a b′ l′ ≡ applyCall n width b
+        pub apply-settles : Ran width (bitAt bits) (switchesOf (wholeOf t n)) 0 0 b l b′ l′ → logged a b′ l′ ≡ applyCallIn (wiringOf t) n width b
             bits l
-        unfolding applyCall moved runApply
+        unfolding moved runApply
         apply-settles ran =
             let f = fits in
-            settles n width verdict (forward [] paper (network n) bits (cut width n b)) well reports (counted ∙ zero-add (W n)) (f .low)
+            settles n width verdict (forward [] (wiringOf t) (network n) bits (cut width n b)) well reports (counted ∙ zero-add (W n)) (f .low)
             (f .whole) kept
-            (run-apply [] paper-lawful n bits (cut width n b) (length-cut width n b)) (rw (all-switches n) at ran)
+            (run-apply [] (lawful t) n bits (cut width n b) (length-cut width n b)) (rw (all-switches t n) at ran)
 
-        pub inverse-settles : Ran width (bitBack bits) (reverse (switchesOf (wholeOf Paper n))) 0 0 b l b′ l′ → logged a b′ l′ ≡
-            inverseCall n width b bits l
-        unfolding inverseCall movedBack runInverse inverseEntries
+        pub inverse-settles : Ran width (bitBack bits) (reverse (switchesOf (wholeOf t n))) 0 0 b l b′ l′ → logged a b′ l′ ≡
+            inverseCallIn (wiringOf t) n width b bits l
+        unfolding movedBack runInverse inverseEntries
         inverse-settles ran =
             let f = fits in
-            settles n width verdict (backward [] paper (network n) bits (cut width n b)) well reports (counted ∙ zero-add (W n)) (f .low)
+            settles n width verdict (backward [] (wiringOf t) (network n) bits (cut width n b)) well reports (counted ∙ zero-add (W n)) (f .low)
             (f .whole) kept
-            (ap (λ c. runFrom [] (λ e. getD bits (c - 1 - e) 0) 0 (inverseEntries paper n) (cut width n b)) (f .count)
-            ∙ run-inverse [] paper-lawful n bits (cut width n b) (length-cut width n b)) (rw (all-switches n) at ran)
+            (ap (λ c. runFrom [] (λ e. getD bits (c - 1 - e) 0) 0 (inverseEntries (wiringOf t) n) (cut width n b)) (f .count)
+            ∙ run-inverse [] (lawful t) n bits (cut width n b) (length-cut width n b)) (rw (all-switches t n) at ran)

@@ -3,10 +3,68 @@
 ghost use mathlib.Core.List.{reverse};
 ghost use Rattle.apply_layers.specs.Ran.{blocksIn, Lent, Pairs, Ran, bitAt, bitBack, layerOf};
 
-// The layer first to last. The commonest widths are told apart only so that the loop is compiled anew for each of them, and
-// widths of whole parts so that it has no rest. Public for the crate `apply_forward` only, whose callers have asked their
-// questions before: so it `requires` what they have settled.
+// The layer first to last. Pairs side by side are told apart from pairs at a distance, and in `near` and `far` the commonest widths from
+// each other, only so that the loop is compiled anew for each of them, and widths of whole parts so that it has no rest. Public for the
+// crate `apply_forward` only, whose callers have asked their questions before: so it `requires` what they have settled.
 pub fn layer(
+    blocks: &mut [u8],
+    width: usize,
+    step: usize,
+    gap: usize,
+    c: usize,
+    o: usize,
+    bits: &[u8],
+    log: &mut [u16],
+    e: usize,
+)
+    requires { ⌜ Lent width o c e (now blocks) (now bits) (now log) × Pairs (blocksIn width (now blocks)) step gap c ⌝ }
+    ensures { λ _. ⌜ Ran width (bitAt (now (bits .entry))) (layerOf step gap c) o e (now (blocks .entry)) (now (log .entry))
+        (now (blocks .exit)) (now (log .exit)) ⌝ }
+{
+    if step == 1 {
+        near(blocks, width, gap, c, o, bits, log, e);
+    } else {
+        far(blocks, width, step, gap, c, o, bits, log, e);
+    }
+}
+
+// Pairs side by side.
+fn near(
+    blocks: &mut [u8],
+    width: usize,
+    gap: usize,
+    c: usize,
+    o: usize,
+    bits: &[u8],
+    log: &mut [u16],
+    e: usize,
+)
+    requires { ⌜ Lent width o c e (now blocks) (now bits) (now log) × Pairs (blocksIn width (now blocks)) 1 gap c ⌝ }
+    ensures { λ _. ⌜ Ran width (bitAt (now (bits .entry))) (layerOf 1 gap c) o e (now (blocks .entry)) (now (log .entry))
+        (now (blocks .exit)) (now (log .exit)) ⌝ }
+{
+    match width {
+        1 => apply_layers::in_parts(blocks, width, 0, 1, 1, gap, c, o, bits, log, e),
+        6 => apply_layers::in_parts(blocks, width, 0, 6, 1, gap, c, o, bits, log, e),
+        8 => apply_layers::in_parts(blocks, width, 0, 8, 1, gap, c, o, bits, log, e),
+        16 => apply_layers::in_parts(blocks, width, 0, 16, 1, gap, c, o, bits, log, e),
+        32 => apply_layers::in_parts(blocks, width, 32, 0, 1, gap, c, o, bits, log, e),
+        64 => apply_layers::in_parts(blocks, width, 64, 0, 1, gap, c, o, bits, log, e),
+        256 => apply_layers::in_parts(blocks, width, 256, 0, 1, gap, c, o, bits, log, e),
+        _ => {
+            if width % 32 == 0 {
+                apply_layers::in_parts(blocks, width, width, 0, 1, gap, c, o, bits, log, e);
+            } else {
+                let rest = width % 32;
+                let w = width / 32 * 32; // the whole parts
+                apply_layers::in_parts(blocks, width, w, rest, 1, gap, c, o, bits, log, e);
+            }
+        }
+    }
+}
+
+// Pairs at a distance.
+fn far(
     blocks: &mut [u8],
     width: usize,
     step: usize,
@@ -41,8 +99,101 @@ pub fn layer(
     }
 }
 
+// A layer of one switch, as a network of two places has it, without a loop: half of all networks are such. Public for the crate
+// `apply_forward` only; it `requires` what `layer` does, for the same reason.
+pub fn pair(
+    blocks: &mut [u8],
+    width: usize,
+    gap: usize,
+    o: usize,
+    bits: &[u8],
+    log: &mut [u16],
+    e: usize,
+)
+    requires { ⌜ Lent width o 1 e (now blocks) (now bits) (now log) × Pairs (blocksIn width (now blocks)) 1 gap 1 ⌝ }
+    ensures { λ _. ⌜ Ran width (bitAt (now (bits .entry))) (layerOf 1 gap 1) o e (now (blocks .entry)) (now (log .entry))
+        (now (blocks .exit)) (now (log .exit)) ⌝ }
+{
+    match width {
+        1 => apply_layers::in_parts(blocks, width, 0, 1, 1, gap, 1, o, bits, log, e),
+        6 => apply_layers::in_parts(blocks, width, 0, 6, 1, gap, 1, o, bits, log, e),
+        8 => apply_layers::in_parts(blocks, width, 0, 8, 1, gap, 1, o, bits, log, e),
+        16 => apply_layers::in_parts(blocks, width, 0, 16, 1, gap, 1, o, bits, log, e),
+        32 => apply_layers::in_parts(blocks, width, 32, 0, 1, gap, 1, o, bits, log, e),
+        64 => apply_layers::in_parts(blocks, width, 64, 0, 1, gap, 1, o, bits, log, e),
+        256 => apply_layers::in_parts(blocks, width, 256, 0, 1, gap, 1, o, bits, log, e),
+        _ => {
+            if width % 32 == 0 {
+                apply_layers::in_parts(blocks, width, width, 0, 1, gap, 1, o, bits, log, e);
+            } else {
+                let rest = width % 32;
+                let w = width / 32 * 32; // the whole parts
+                apply_layers::in_parts(blocks, width, w, rest, 1, gap, 1, o, bits, log, e);
+            }
+        }
+    }
+}
+
 // The layer last to first. Public for the crate `apply_backward` only; it `requires` what `layer` does, for the same reason.
 pub fn layer_back(
+    blocks: &mut [u8],
+    width: usize,
+    step: usize,
+    gap: usize,
+    c: usize,
+    o: usize,
+    bits: &[u8],
+    log: &mut [u16],
+    e: usize,
+)
+    requires { ⌜ Lent width o c e (now blocks) (now bits) (now log) × Pairs (blocksIn width (now blocks)) step gap c ⌝ }
+    ensures { λ _. ⌜ Ran width (bitBack (now (bits .entry))) (reverse (layerOf step gap c)) o e (now (blocks .entry))
+        (now (log .entry)) (now (blocks .exit)) (now (log .exit)) ⌝ }
+{
+    if step == 1 {
+        near_back(blocks, width, gap, c, o, bits, log, e);
+    } else {
+        far_back(blocks, width, step, gap, c, o, bits, log, e);
+    }
+}
+
+// Pairs side by side.
+fn near_back(
+    blocks: &mut [u8],
+    width: usize,
+    gap: usize,
+    c: usize,
+    o: usize,
+    bits: &[u8],
+    log: &mut [u16],
+    e: usize,
+)
+    requires { ⌜ Lent width o c e (now blocks) (now bits) (now log) × Pairs (blocksIn width (now blocks)) 1 gap c ⌝ }
+    ensures { λ _. ⌜ Ran width (bitBack (now (bits .entry))) (reverse (layerOf 1 gap c)) o e (now (blocks .entry))
+        (now (log .entry)) (now (blocks .exit)) (now (log .exit)) ⌝ }
+{
+    match width {
+        1 => apply_layers::in_parts_back(blocks, width, 0, 1, 1, gap, c, o, bits, log, e),
+        6 => apply_layers::in_parts_back(blocks, width, 0, 6, 1, gap, c, o, bits, log, e),
+        8 => apply_layers::in_parts_back(blocks, width, 0, 8, 1, gap, c, o, bits, log, e),
+        16 => apply_layers::in_parts_back(blocks, width, 0, 16, 1, gap, c, o, bits, log, e),
+        32 => apply_layers::in_parts_back(blocks, width, 32, 0, 1, gap, c, o, bits, log, e),
+        64 => apply_layers::in_parts_back(blocks, width, 64, 0, 1, gap, c, o, bits, log, e),
+        256 => apply_layers::in_parts_back(blocks, width, 256, 0, 1, gap, c, o, bits, log, e),
+        _ => {
+            if width % 32 == 0 {
+                apply_layers::in_parts_back(blocks, width, width, 0, 1, gap, c, o, bits, log, e);
+            } else {
+                let rest = width % 32;
+                let w = width / 32 * 32; // the whole parts
+                apply_layers::in_parts_back(blocks, width, w, rest, 1, gap, c, o, bits, log, e);
+            }
+        }
+    }
+}
+
+// Pairs at a distance.
+fn far_back(
     blocks: &mut [u8],
     width: usize,
     step: usize,
@@ -72,6 +223,40 @@ pub fn layer_back(
                 let rest = width % 32;
                 let w = width / 32 * 32; // the whole parts
                 apply_layers::in_parts_back(blocks, width, w, rest, step, gap, c, o, bits, log, e);
+            }
+        }
+    }
+}
+
+// The same for the return, whose entry has another bit. Public for the crate `apply_backward` only.
+pub fn pair_back(
+    blocks: &mut [u8],
+    width: usize,
+    gap: usize,
+    o: usize,
+    bits: &[u8],
+    log: &mut [u16],
+    e: usize,
+)
+    requires { ⌜ Lent width o 1 e (now blocks) (now bits) (now log) × Pairs (blocksIn width (now blocks)) 1 gap 1 ⌝ }
+    ensures { λ _. ⌜ Ran width (bitBack (now (bits .entry))) (reverse (layerOf 1 gap 1)) o e (now (blocks .entry))
+        (now (log .entry)) (now (blocks .exit)) (now (log .exit)) ⌝ }
+{
+    match width {
+        1 => apply_layers::in_parts_back(blocks, width, 0, 1, 1, gap, 1, o, bits, log, e),
+        6 => apply_layers::in_parts_back(blocks, width, 0, 6, 1, gap, 1, o, bits, log, e),
+        8 => apply_layers::in_parts_back(blocks, width, 0, 8, 1, gap, 1, o, bits, log, e),
+        16 => apply_layers::in_parts_back(blocks, width, 0, 16, 1, gap, 1, o, bits, log, e),
+        32 => apply_layers::in_parts_back(blocks, width, 32, 0, 1, gap, 1, o, bits, log, e),
+        64 => apply_layers::in_parts_back(blocks, width, 64, 0, 1, gap, 1, o, bits, log, e),
+        256 => apply_layers::in_parts_back(blocks, width, 256, 0, 1, gap, 1, o, bits, log, e),
+        _ => {
+            if width % 32 == 0 {
+                apply_layers::in_parts_back(blocks, width, width, 0, 1, gap, 1, o, bits, log, e);
+            } else {
+                let rest = width % 32;
+                let w = width / 32 * 32; // the whole parts
+                apply_layers::in_parts_back(blocks, width, w, rest, 1, gap, 1, o, bits, log, e);
             }
         }
     }

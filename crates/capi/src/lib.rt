@@ -10,11 +10,14 @@ use permutation_record::Permutation;
 ghost use mathlib.Core.Path.{_≡_};
 ghost use lib.ListN.{length};
 ghost use Rattle.answers.specs.Outcomes.{outcome, logged};
-ghost use Rattle.apply.specs.Calls.{applyCall, inverseCall};
+ghost use Rattle.apply.specs.Calls.{applyCall, inverseCall, applyCallIn, inverseCallIn};
+ghost use Rattle.convert.specs.Calls.{convertCall};
 ghost use Rattle.gauges.specs.Calls.{reportCall};
 ghost use Rattle.sheets.specs.Calls.{writeSheet, readSheet};
-ghost use Rattle.control.specs.Calls.{setCall};
+ghost use Rattle.control.specs.Calls.{setCall, setCallIn};
 ghost use Rattle.counts.specs.Counts.{W, E};
+ghost use Rattle.network.specs.Wiring.{neighbour};
+ghost use Rattle.wirings.specs.declared.Topology.the-variants.{Paper, Neighbour};
 ghost use Rattle.numbers.specs.Numbers.{numberAt};
 ghost use Rattle.permutation_record.specs.Records as records;
 ghost use Rattle.ranks.specs.Calls.{ranked, rankedCall};
@@ -81,6 +84,74 @@ pub extern "C" fn lomuveran_ranked_order(
         ≡ rankedCall n r (now (order .entry)) (now (bits .entry)) (now (log .entry)) ⌝ }
 {
     capi_values::tell(ranks::ranked_order(n, r, order, bits, log))
+}
+
+// ---- the neighbour wiring (02, F-6): a call of its own for each, so that no number for a wiring must be asked about
+
+// Set.
+#[no_mangle]
+pub extern "C" fn lomuveran_neighbour_control_bits(
+    order: &[u16],
+    bits: &mut [u8],
+    log: &mut [u16],
+) -> CAnswer
+    ensures { λ r. ⌜ logged (answerIn r) (now (bits .exit)) (now (log .exit))
+        ≡ setCallIn neighbour (now (order .entry)) (now (bits .entry)) (now (log .entry)) ⌝ }
+{
+    capi_values::tell(control::control_bits_in(wirings::Topology::Neighbour, order, bits, log))
+}
+
+// Mix.
+#[no_mangle]
+pub extern "C" fn lomuveran_neighbour_apply(
+    n: usize,
+    width: usize,
+    blocks: &mut [u8],
+    bits: &[u8],
+    log: &mut [u16],
+) -> CAnswer
+    ensures { λ r. ⌜ logged (answerIn r) (now (blocks .exit)) (now (log .exit))
+        ≡ applyCallIn neighbour n width (now (blocks .entry)) (now (bits .entry)) (now (log .entry)) ⌝ }
+{
+    capi_values::tell(apply::apply_in(wirings::Topology::Neighbour, n, width, blocks, bits, log))
+}
+
+// Return.
+#[no_mangle]
+pub extern "C" fn lomuveran_neighbour_apply_inverse(
+    n: usize,
+    width: usize,
+    blocks: &mut [u8],
+    bits: &[u8],
+    log: &mut [u16],
+) -> CAnswer
+    ensures { λ r. ⌜ logged (answerIn r) (now (blocks .exit)) (now (log .exit))
+        ≡ inverseCallIn neighbour n width (now (blocks .entry)) (now (bits .entry)) (now (log .entry)) ⌝ }
+{
+    capi_values::tell(apply::apply_inverse_in(
+        wirings::Topology::Neighbour,
+        n,
+        width,
+        blocks,
+        bits,
+        log,
+    ))
+}
+
+// The converter, from the paper's wiring.
+#[no_mangle]
+pub extern "C" fn lomuveran_to_neighbour(n: usize, given: &[u8], out: &mut [u8]) -> CAnswer
+    ensures { λ r. ⌜ outcome (answerIn r) (now (out .exit)) ≡ convertCall Paper n (now (given .entry)) (now (out .entry)) ⌝ }
+{
+    capi_values::tell(convert::convert(wirings::Topology::Paper, n, given, out))
+}
+
+// The converter, from the neighbour wiring.
+#[no_mangle]
+pub extern "C" fn lomuveran_to_paper(n: usize, given: &[u8], out: &mut [u8]) -> CAnswer
+    ensures { λ r. ⌜ outcome (answerIn r) (now (out .exit)) ≡ convertCall Neighbour n (now (given .entry)) (now (out .entry)) ⌝ }
+{
+    capi_values::tell(convert::convert(wirings::Topology::Neighbour, n, given, out))
 }
 
 // ---- sheets

@@ -1,5 +1,7 @@
-// Runs a setter's log, entry by entry, on a hidden table of its own: at each place trail × 2,048 + value, where a trail is
-// a number whose lowest binary digit is its last bit.
+// Runs a setter's log, entry by entry and in either wiring, on a hidden table of its own: at each place trail × 2,048 + value, where a
+// trail is a number whose lowest binary digit is its last bit.
+use crate::nets;
+use crate::nets::Net;
 
 // f, c, g, s of document 01, and the position of the next bit: a network's input bits are passed in its step 4, its output bits
 // in its step 6, and those of its halves between.
@@ -13,13 +15,23 @@ struct Walk {
 
 // ---- the table
 
-// Entry o + i of a table.
-fn at(a: &[usize; 1024], o: usize, i: usize) -> usize {
-    a[(o % 1024 + i % 1024) % 1024]
+// Where place i of a network lies in the whole.
+fn place(net: Net, i: usize) -> usize {
+    tally::add(net.o, i % 1024 << (net.level % 16)) % 1024
 }
 
-fn put(a: &mut [usize; 1024], o: usize, i: usize, x: usize) {
-    a[(o % 1024 + i % 1024) % 1024] = x;
+fn at(table: &[usize; 1024], net: Net, i: usize) -> usize {
+    let p = place(net, i);
+    table[p % 1024]
+}
+
+fn put(table: &mut [usize; 1024], net: Net, i: usize, x: usize) {
+    let p = place(net, i);
+    table[p % 1024] = x;
+}
+
+fn put_mark(marks: &mut [usize; 1024], i: usize, x: usize) {
+    marks[i % 1024] = x;
 }
 
 fn put_bit(bits: &mut [u8; counts::MOST_SWITCHES], i: usize, bit: bool) {
@@ -28,32 +40,26 @@ fn put_bit(bits: &mut [u8; counts::MOST_SWITCHES], i: usize, bit: bool) {
     }
 }
 
-// m/2 rounded up.
-fn up(m: usize) -> usize {
-    m - m / 2
-}
-
 fn less(x: usize) -> usize {
     if x == 0 { 0 } else { x - 1 }
-}
-
-// The other one of v and v + k: associates among values, the two of a pair among places.
-fn other(k: usize, v: usize) -> usize {
-    if v < k { tally::add(v, k) } else { v - k }
 }
 
 // ---- the steps
 
 // The value at place p. Place m is imagined and holds value m.
-fn value(table: &[usize; 1024], o: usize, m: usize, p: usize) -> usize {
-    if p < m { at(table, o, p) % 2048 } else { m }
+fn value(table: &[usize; 1024], net: Net, p: usize) -> usize {
+    if p < net.m {
+        at(table, net, p) % 2048
+    } else {
+        net.m
+    }
 }
 
 // The lowest of k pairs whose mark is x; else k.
 fn lowest(marks: &[usize; 1024], k: usize, x: usize) -> usize {
     let mut i = 0;
     while i < k {
-        if at(marks, 0, i) == x {
+        if marks[i % 1024] == x {
             return i;
         }
         i += 1;
@@ -61,39 +67,41 @@ fn lowest(marks: &[usize; 1024], k: usize, x: usize) -> usize {
     k
 }
 
-// 1. If no pair is marked, f = c = k - 1. Then g is the value at f.
-fn step1(table: &[usize; 1024], marks: &[usize; 1024], o: usize, m: usize, w: Walk) -> Walk {
-    let k = up(m);
+// 1. If no pair is marked, f = c = k - 1, or 2k - 2 in the neighbour wiring. Then g is the value at f.
+fn step1(table: &[usize; 1024], marks: &[usize; 1024], net: Net, w: Walk) -> Walk {
+    let k = nets::up(net.m);
     let mut f = w.f;
     let mut c = w.c;
     if lowest(marks, k, 1) == k {
-        f = less(k);
+        f = nets::one_of(net.paper, k, less(k), false);
         c = f;
     }
     Walk {
         f,
         c,
-        g: value(table, o, m, f),
+        g: value(table, net, f),
         s: w.s,
         b: w.b,
     }
 }
 
 // 2. s is the place that holds g's associate. Value m, for odd m, is held by the imagined place m.
-fn step2(table: &[usize; 1024], o: usize, m: usize, w: Walk) -> Walk {
+fn step2(table: &[usize; 1024], net: Net, w: Walk) -> Walk {
+    let associate = nets::other(net.paper, nets::up(net.m), w.g);
     Walk {
         f: w.f,
         c: w.c,
         g: w.g,
-        s: place_of(table, o, m, other(up(m), w.g)),
+        s: place_of(table, net, associate),
         b: w.b,
     }
 }
 
-fn place_of(table: &[usize; 1024], o: usize, m: usize, v: usize) -> usize {
+fn place_of(table: &[usize; 1024], net: Net, v: usize) -> usize {
+    let m = net.m;
     let mut p = 0;
     while p < m {
-        if at(table, o, p) % 2048 == v {
+        if at(table, net, p) % 2048 == v {
             return p;
         }
         p += 1;
@@ -101,28 +109,28 @@ fn place_of(table: &[usize; 1024], o: usize, m: usize, v: usize) -> usize {
     m
 }
 
-// 3. If s's pair has an input switch, its bit is 1 where s is below k, else 0. The pair is marked and f is the other place
+// 3. If s's pair has an input switch, its bit is 1 where s is the lower place of it, else 0. The pair is marked and f is the other place
 // of it. If f = c and a pair is unmarked, f = c = the lower place of the lowest unmarked pair.
 fn step3(
     marks: &mut [usize; 1024],
     bits: &mut [u8; counts::MOST_SWITCHES],
-    m: usize,
+    net: Net,
     w: Walk,
 ) -> Walk {
-    let k = up(m);
+    let k = nets::up(net.m);
     let s = w.s;
-    let mut f = other(k, s);
+    let mut f = nets::other(net.paper, k, s);
     let mut c = w.c;
-    let pair = if s < k { s } else { f };
-    if tally::add(pair, 1) < k {
-        put_bit(bits, tally::add(w.b, pair), s < k);
+    let i = nets::pair(net.paper, k, s);
+    if tally::add(i, 1) < k {
+        put_bit(bits, tally::add(w.b, i), !nets::upper(net.paper, k, s));
     }
-    put(marks, 0, pair, 1);
+    put_mark(marks, i, 1);
     let low = lowest(marks, k, 0);
     if f == c {
         if low < k {
-            f = low;
-            c = low;
+            f = nets::one_of(net.paper, k, low, false);
+            c = f;
         }
     }
     Walk {
@@ -134,19 +142,20 @@ fn step3(
     }
 }
 
-// Switch i on (o + i, o + k + i) acts on the table.
-fn swap(table: &mut [usize; 1024], o: usize, k: usize, i: usize) {
-    let x = at(table, o, i);
-    let y = at(table, o, tally::add(k, i));
-    put(table, o, i, y);
-    put(table, o, tally::add(k, i), x);
+// Switch i acts on the table.
+fn swap(table: &mut [usize; 1024], net: Net, i: usize) {
+    let k = nets::up(net.m);
+    let p = nets::one_of(net.paper, k, i, false);
+    let q = nets::one_of(net.paper, k, i, true);
+    let x = at(table, net, p);
+    put(table, net, p, at(table, net, q));
+    put(table, net, q, x);
 }
 
 // The first c switches, under the bits from `first` on.
 fn act(
     table: &mut [usize; 1024],
-    o: usize,
-    k: usize,
+    net: Net,
     c: usize,
     bits: &[u8; counts::MOST_SWITCHES],
     first: usize,
@@ -154,7 +163,7 @@ fn act(
     let mut i = 0;
     while i < c {
         if bits[tally::add(first, i) % 9217] == 1 {
-            swap(table, o, k, i);
+            swap(table, net, i);
         }
         i += 1;
     }
@@ -165,54 +174,62 @@ fn step4(
     table: &mut [usize; 1024],
     marks: &mut [usize; 1024],
     bits: &[u8; counts::MOST_SWITCHES],
-    o: usize,
-    m: usize,
+    net: Net,
     first: usize,
 ) {
-    let k = up(m);
-    act(table, o, k, less(k), bits, first);
+    let k = nets::up(net.m);
+    act(table, net, less(k), bits, first);
     let mut i = 0;
     while i < k {
-        put(marks, 0, i, 0);
+        put_mark(marks, i, 0);
         i += 1;
     }
 }
 
-// 5. Each value of k or more loses k and gains 1 on its trail; each other gains 0.
-fn step5(table: &mut [usize; 1024], o: usize, m: usize) {
-    let k = up(m);
+// 5. Each value becomes the number of its pair, and gains 1 on its trail where it was the upper one of it, else 0.
+fn step5(table: &mut [usize; 1024], net: Net) {
+    let m = net.m;
     let mut p = 0;
     while p < m {
-        put(table, o, p, gained(k, at(table, o, p)));
+        put(
+            table,
+            net,
+            p,
+            gained(net.paper, nets::up(m), at(table, net, p)),
+        );
         p += 1;
     }
 }
 
-fn gained(k: usize, cell: usize) -> usize {
+fn gained(paper: bool, k: usize, cell: usize) -> usize {
     let v = cell % 2048;
     let trail = cell / 2048 % 2048 * 2;
-    if v < k {
-        trail * 2048 + v
-    } else {
-        (trail + 1) * 2048 + (v - k)
+    let next = tally::add(trail * 2048, nets::pair(paper, k, v));
+    if nets::upper(paper, k, v) {
+        return tally::add(next, 2048);
     }
+    next
 }
 
-// 6. For i = 0 to m-k-1, output bit i is the last trail bit at o+i, and the switches act. Then every trail loses its last
-// bit and the value regains k where that bit was 1.
+// 6. For i = 0 to m-k-1, output bit i is the last trail bit at the lower place of pair i, and the switches act. Then every trail loses
+// its last bit and the value becomes that one of its pair which the bit says.
 fn step6(
     table: &mut [usize; 1024],
     bits: &mut [u8; counts::MOST_SWITCHES],
-    o: usize,
-    m: usize,
+    net: Net,
     first: usize,
 ) {
-    let k = up(m);
-    last_bits(table, bits, o, m / 2, first);
-    act(table, o, k, m / 2, bits, first);
+    let m = net.m;
+    last_bits(table, bits, net, m / 2, first);
+    act(table, net, m / 2, bits, first);
     let mut p = 0;
     while p < m {
-        put(table, o, p, regained(k, at(table, o, p)));
+        put(
+            table,
+            net,
+            p,
+            regained(net.paper, nets::up(m), at(table, net, p)),
+        );
         p += 1;
     }
 }
@@ -220,26 +237,27 @@ fn step6(
 fn last_bits(
     table: &[usize; 1024],
     bits: &mut [u8; counts::MOST_SWITCHES],
-    o: usize,
+    net: Net,
     h: usize,
     first: usize,
 ) {
+    let k = nets::up(net.m);
     let mut i = 0;
     while i < h {
-        put_bit(bits, tally::add(first, i), at(table, o, i) / 2048 % 2 == 1);
+        let p = nets::one_of(net.paper, k, i, false);
+        put_bit(
+            bits,
+            tally::add(first, i),
+            at(table, net, p) / 2048 % 2 == 1,
+        );
         i += 1;
     }
 }
 
-fn regained(k: usize, cell: usize) -> usize {
-    let v = cell % 2048;
+fn regained(paper: bool, k: usize, cell: usize) -> usize {
     let trail = cell / 2048;
-    let back = trail / 2 * 2048 + v;
-    if trail % 2 == 1 {
-        tally::add(back, k)
-    } else {
-        back
-    }
+    let v = nets::one_of(paper, k, cell % 2048, trail % 2 == 1);
+    tally::add(trail / 2 * 2048, v)
 }
 
 // A step was done that passed n bits.
@@ -253,29 +271,28 @@ fn passed(w: Walk, n: usize) -> Walk {
     }
 }
 
-// One entry: the step of its kind on the network of m places from o.
+// One entry: the step of its kind on its network.
 fn step(
     table: &mut [usize; 1024],
     marks: &mut [usize; 1024],
     bits: &mut [u8; counts::MOST_SWITCHES],
-    o: usize,
-    m: usize,
+    net: Net,
     kind: u16,
     w: Walk,
 ) -> Walk {
     let b = w.b;
     match kind {
-        1 => return step1(table, marks, o, m, w),
-        2 => return step2(table, o, m, w),
-        3 => return step3(marks, bits, m, w),
+        1 => return step1(table, marks, net, w),
+        2 => return step2(table, net, w),
+        3 => return step3(marks, bits, net, w),
         4 => {
-            step4(table, marks, bits, o, m, b);
-            return passed(w, less(up(m)));
+            step4(table, marks, bits, net, b);
+            return passed(w, less(nets::up(net.m)));
         }
-        5 => step5(table, o, m),
+        5 => step5(table, net),
         6 => {
-            step6(table, bits, o, m, b);
-            return passed(w, m / 2);
+            step6(table, bits, net, b);
+            return passed(w, net.m / 2);
         }
         _ => {}
     }
@@ -286,8 +303,10 @@ fn wide(x: u16) -> usize {
     x as usize
 }
 
-// Runs the first `count` entries of a log, from an order and bits that are all 0.
+// Runs the first `count` entries of a log, from an order of n places and bits that are all 0.
 pub(crate) fn run(
+    paper: bool,
+    n: usize,
     order: &[u16; 1024],
     log: &[u16; entry_log::MOST_SET_WORDS],
     count: usize,
@@ -306,15 +325,8 @@ pub(crate) fn run(
     while e < count {
         let i = e % 16381 * 3;
         let kind = log[i];
-        w = step(
-            &mut table,
-            &mut marks,
-            bits,
-            wide(log[i + 1]),
-            wide(log[i + 2]),
-            kind,
-            w,
-        );
+        let net = nets::find(paper, n, wide(log[i + 1]), wide(log[i + 2]));
+        w = step(&mut table, &mut marks, bits, net, kind, w);
         e += 1;
     }
 }

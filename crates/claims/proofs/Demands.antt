@@ -10,9 +10,9 @@ use Rattle.answers.specs.Buffers.{overlay}
 use Rattle.answers.specs.Outcomes.{Logged, settledLogged}
 use Rattle.answers.proofs.Outcomes.{Numbered, accepted-when, logged-refused}
 use Rattle.counts.specs.Counts.{W, E}
-use Rattle.network.specs.Wiring.{paper}
+use Rattle.network.specs.Wiring.{Wiring, Lawful, paper}
 use Rattle.network.specs.Blocks.{cut, bytesOf, moved, movedBack}
-use Rattle.network.specs.Log.{Entry, words, entries}
+use Rattle.network.specs.Log.{words, entries}
 use Rattle.network.proofs.Shape.{entries-words, length-applyEntries, length-inverseEntries}
 use Rattle.network.proofs.Paper.{paper-lawful}
 use Rattle.network.proofs.Blocks.{length-cut}
@@ -25,14 +25,18 @@ use Rattle.steps.specs.Run.{settingOf}
 use Rattle.steps.proofs.Lengths.{length-setEntries}
 use Rattle.steps_canonical.proofs.Whole.{setting-canonical}
 use Rattle.apply_questions.specs.Questions.{applyQuestions}
-use Rattle.apply.specs.Calls.{applyCall, inverseCall}
 use Rattle.apply_questions.proofs.Asked.{passes, numbered}
 use Rattle.control.specs.Calls.{setCall}
+use Rattle.apply.specs.Calls.{applyCall, inverseCall}
+use Rattle.wirings.specs.declared.Topology.{Topology}
+use Rattle.wirings.specs.declared.Topology.the-variants.{Paper}
+use Rattle.wirings.specs.Nets.{wiringOf}
+use Rattle.wirings.proofs.Halves.{lawful}
 use Rattle.ranks_order.specs.Ranks.{orderAt}
 use Rattle.ranks_order.proofs.OrderAt.{length-orderAt, order-permutation}
 use Rattle.ranks.specs.Calls.{rankedCall}
 use Rattle.ranks.proofs.Asked.{rank-asked, rank-numbered}
-use Rattle.claims.specs.Calls.{Direction, mixing, returning, Call, set, move, rank, moving, entriesDue, countDue, moveCall, runMove, movedBy, described, outcomeOf, Accepted, due, written}
+use Rattle.claims.specs.Calls.{Direction, mixing, returning, Call, set, move, mix, return, rank, moving, entriesDue, countDue, moveCall, runMove, movedBy, described, outcomeOf, Accepted, due, dueEntries, written}
 use Rattle.claims.specs.Demands.{Demand1, Logs, Demand3}
 use Rattle.claims.proofs.Asked.{set-asked, set-numbered}
 use Rattle.claims.proofs.Settled.{Left, left}
@@ -43,12 +47,9 @@ abbrev pub asked : Call → Verdict
 asked c = firstNo (described c .questions)
 
 abbrev pub resultOf : Call → List ℕ
-resultOf (set order bits log) = settingOf paper order (setEntries paper (length order))
-resultOf (move d n width blocks bits log) = movedBy d n width bits blocks
+resultOf (set t order bits log) = settingOf (wiringOf t) order (setEntries (wiringOf t) (length order))
+resultOf (move t d n width blocks bits log) = movedBy (wiringOf t) d n width bits blocks
 resultOf (rank n r list bits log) = settingOf paper (orderAt n r) (setEntries paper n)
-
-abbrev pub dueEntries : Call → List Entry
-dueEntries c = entriesDue (described c .kind) (described c .places)
 
 record Laws (c : Call) : Type 0 where
   settles : outcomeOf c
@@ -60,49 +61,48 @@ record Laws (c : Call) : Type 0 where
   right : asked c ≡ allYes → described c .Right (resultOf c)
   fills : asked c ≡ allYes → length (resultOf c) ≡ length (described c .buffer)
 
-module _ (order bits log : List ℕ) where
-  set-right : asked (set order bits log) ≡ allYes → described (set order bits log) .Right (resultOf (set order bits log))
-  set-right e = setting-canonical paper-lawful (length order) order (set-asked order bits log e .permutation)
+module _ (t : Topology) (order bits log : List ℕ) where
+  set-right : asked (set t order bits log) ≡ allYes → described (set t order bits log) .Right (resultOf (set t order bits log))
+  set-right e = setting-canonical (lawful t) (length order) order (set-asked order bits log e .permutation)
 
-  set-laws : Laws (set order bits log)
-  unfolding setCall
+  set-laws : Laws (set t order bits log)
   set-laws =
       let n = length order in
       record {
         settles = refl;
         kept = λ e. refl;
         all-numbered = set-numbered order bits log;
-        counted = length-setEntries paper n;
+        counted = length-setEntries (wiringOf t) n;
         runs = refl;
         right = set-right;
         fills = λ e.
-            canonical-length paper n order (settingOf paper order (setEntries paper n)) (set-right e)
+            canonical-length (wiringOf t) n order (resultOf (set t order bits log)) (set-right e)
             ∙ sym (set-asked order bits log e .bit-count);
       }
 
-module _ (n width : ℕ) (blocks bits log : List ℕ) where
-  move-settles : (d : Direction) → moveCall d n width blocks bits log
-      ≡ settledLogged (firstNo (applyQuestions n width (length blocks) bits (length log))) (W n) (movedBy d n width bits blocks) blocks
-      (words (entriesDue (moving d) n)) log
-  unfolding applyCall inverseCall
+pub length-movedBy : {w : Wiring} → Lawful w → (d : Direction) (n width : ℕ) (bits blocks : List ℕ) → length blocks ≡ n * width
+    → length (movedBy w d n width bits blocks) ≡ n * width
+length-movedBy L mixing n width bits blocks fill = length-moved L n width bits blocks fill
+length-movedBy L returning n width bits blocks fill = length-movedBack L n width bits blocks fill
+
+module _ (t : Topology) (n width : ℕ) (blocks bits log : List ℕ) where
+  move-settles : (d : Direction) → moveCall (wiringOf t) d n width blocks bits log
+      ≡ settledLogged (firstNo (applyQuestions n width (length blocks) bits (length log))) (W n)
+      (movedBy (wiringOf t) d n width bits blocks) blocks (words (entriesDue t (moving d) n)) log
   move-settles mixing = refl
   move-settles returning = refl
 
-  move-counted : (d : Direction) → length (entriesDue (moving d) n) ≡ W n
-  move-counted mixing = length-applyEntries paper n
-  move-counted returning = length-inverseEntries paper n
+  move-counted : (d : Direction) → length (entriesDue t (moving d) n) ≡ W n
+  move-counted mixing = length-applyEntries (wiringOf t) n
+  move-counted returning = length-inverseEntries (wiringOf t) n
 
   move-runs : (d : Direction)
-      → bytesOf (runMove d n bits (entriesDue (moving d) n) (cut width n blocks)) ≡ movedBy d n width bits blocks
+      → bytesOf (runMove d n bits (entriesDue t (moving d) n) (cut width n blocks)) ≡ movedBy (wiringOf t) d n width bits blocks
   unfolding moved movedBack
-  move-runs mixing = ap bytesOf (run-apply [] paper-lawful n bits (cut width n blocks) (length-cut width n blocks))
-  move-runs returning = ap bytesOf (run-inverse [] paper-lawful n bits (cut width n blocks) (length-cut width n blocks))
+  move-runs mixing = ap bytesOf (run-apply [] (lawful t) n bits (cut width n blocks) (length-cut width n blocks))
+  move-runs returning = ap bytesOf (run-inverse [] (lawful t) n bits (cut width n blocks) (length-cut width n blocks))
 
-  pub length-movedBy : (d : Direction) → length blocks ≡ n * width → length (movedBy d n width bits blocks) ≡ n * width
-  length-movedBy mixing fill = length-moved paper-lawful n width bits blocks fill
-  length-movedBy returning fill = length-movedBack paper-lawful n width bits blocks fill
-
-  move-laws : (d : Direction) → Laws (move d n width blocks bits log)
+  move-laws : (d : Direction) → Laws (move t d n width blocks bits log)
   move-laws d =
       record {
         settles = move-settles d;
@@ -113,7 +113,7 @@ module _ (n width : ℕ) (blocks bits log : List ℕ) where
         right = λ e. refl;
         fills = λ e.
             let fill = passes n width (length blocks) bits (length log) e .whole in
-            length-movedBy d fill ∙ sym fill;
+            length-movedBy (lawful t) d n width bits blocks fill ∙ sym fill;
       }
 
 module _ (n r : ℕ) (list bits log : List ℕ) where
@@ -132,6 +132,7 @@ module _ (n r : ℕ) (list bits log : List ℕ) where
   rank-right e = setting-canonical paper-lawful n (orderAt n r) (order-permutation n r (rank-asked n r list bits log e .rank-below))
 
   rank-laws : Laws (rank n r list bits log)
+  unfolding wiringOf
   rank-laws =
       record {
         settles = rank-settles;
@@ -146,9 +147,24 @@ module _ (n r : ℕ) (list bits log : List ℕ) where
       }
 
 laws : (c : Call) → Laws c
-laws (set order bits log) = set-laws order bits log
-laws (move d n width blocks bits log) = move-laws n width blocks bits log d
+laws (set t order bits log) = set-laws t order bits log
+laws (move t d n width blocks bits log) = move-laws t n width blocks bits log d
 laws (rank n r list bits log) = rank-laws n r list bits log
+
+-- ---- the calls of 01 are those in the paper's wiring
+
+pub paper-set : (order bits log : List ℕ) → setCall order bits log ≡ outcomeOf (set Paper order bits log)
+unfolding setCall wiringOf
+paper-set order bits log = refl
+
+module _ (n width : ℕ) (blocks bits log : List ℕ) where
+  pub paper-mix : applyCall n width blocks bits log ≡ outcomeOf (mix Paper n width blocks bits log)
+  unfolding applyCall wiringOf
+  paper-mix = refl
+
+  pub paper-return : inverseCall n width blocks bits log ≡ outcomeOf (return Paper n width blocks bits log)
+  unfolding inverseCall wiringOf
+  paper-return = refl
 
 -- ---- demand 1
 
@@ -198,8 +214,8 @@ demand3 a b p q =
     let A = leaves a (accepted-passes a p) in
     let B = leaves b (accepted-passes b q) in
     record {
-      same-log = λ k n. A .words-are ∙ ap words (λ i. entriesDue (k i) (n i)) ∙ sym (B .words-are);
-      same-count = λ k n. logs a p .count ∙ (λ i. countDue (k i) (n i)) ∙ sym (logs b q .count);
+      same-log = λ s. A .words-are ∙ ap words (λ i. entriesDue (s .wiring i) (s .kind i) (s .places i)) ∙ sym (B .words-are);
+      same-count = λ s. logs a p .count ∙ (λ i. countDue (s .kind i) (s .places i)) ∙ sym (logs b q .count);
       first = logs a p;
       second = logs b q;
     }

@@ -5,3 +5,4 @@ pub mod Carrying
 pub mod Month
 pub mod Charts
 pub mod Ranks
+pub mod Converting

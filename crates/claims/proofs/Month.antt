@@ -22,10 +22,9 @@ use Rattle.sheets.specs.Calls.{writeQuestions, writeSheet, headQuestions, bitsF
 use Rattle.shuffle_words.specs.Words.{chosen}
 use Rattle.shuffle.specs.Shuffled.{stepped, shuffleCall}
 use Rattle.apply_questions.specs.Questions.{applyQuestions}
-use Rattle.apply.specs.Calls.{applyCall, inverseCall}
-use Rattle.control.specs.Calls.{setCall}
+use Rattle.wirings.specs.Nets.{wiringOf}
 use Rattle.claims.specs.Month.{runCase, expected, cases}
 
 pub month : map runCase cases ≡ map expected cases
-unfolding cases map firstBadFrom overlay W E byHalves network networkIn switchCount switch layer layerBack part joined forward backward cut bytesOf moved movedBack words layerEntries switches applyEntries inverseEntries howMany goodEntry tabulate look seek store each act step1 step2 step3 step4 step5 step6 rounds inputEntries entriesOf setEntries subnetworks runEntry runEntries runSet numberBytes numberQuestions numberAt bitsNumber fourteens numbersBytes sheet numbersQuestions numbersAt placePast lowBits bitsIn allZero writeQuestions writeSheet headQuestions bitsFrom bodyQuestions readQuestions readSheet settingIn chosen stepped shuffleCall applyQuestions applyCall inverseCall setCall
+unfolding cases map firstBadFrom overlay W E byHalves network networkIn switchCount switch layer layerBack part joined forward backward cut bytesOf moved movedBack words layerEntries switches applyEntries inverseEntries howMany goodEntry tabulate look seek store each act step1 step2 step3 step4 step5 step6 rounds inputEntries entriesOf setEntries subnetworks runEntry runEntries runSet numberBytes numberQuestions numberAt bitsNumber fourteens numbersBytes sheet numbersQuestions numbersAt placePast lowBits bitsIn allZero writeQuestions writeSheet headQuestions bitsFrom bodyQuestions readQuestions readSheet settingIn chosen stepped shuffleCall applyQuestions wiringOf
 month = refl

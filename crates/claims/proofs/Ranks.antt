@@ -13,7 +13,8 @@ use Rattle.network.specs.Wiring.{paper}
 use Rattle.network.specs.Network.{network}
 use Rattle.network.specs.Log.{entryWords}
 use Rattle.canonical.specs.Rule.{Canonical}
-use Rattle.control.specs.Calls.{setCall}
+use Rattle.wirings.specs.declared.Topology.the-variants.{Paper}
+use Rattle.wirings.specs.Nets.{wiringOf}
 use Rattle.permutation.specs.Permutations.{IsPermutation}
 use Rattle.ranks_order.specs.Ranks.{orderAt, ListedOnce}
 use Rattle.ranks_order.proofs.OrderAt.{length-orderAt, order-permutation}
@@ -21,6 +22,7 @@ use Rattle.ranks_order.proofs.Listed.{listed-once}
 use Rattle.ranks.specs.Calls.{rankedCall}
 use Rattle.ranks.proofs.Asked.{rank-asked, rank-passes}
 use Rattle.claims.specs.Calls.{Call, set, rank, described, outcomeOf, Accepted, countOf, written}
+use Rattle.claims.specs.Demands.{Alike}
 use Rattle.claims.specs.Ranks.{AsSet, RoomToRank, Treated}
 use Rattle.claims.proofs.Asked.{set-passes}
 use Rattle.claims.proofs.Demands.{asked, accepted-passes, leaves, left-right, demand1, demand3}
@@ -30,7 +32,7 @@ module _ (n r : ℕ) (list bits log : List ℕ) (a : Accepted (rank n r list bit
   ranks = rank n r list bits log
 
   abbrev sets : List ℕ → List ℕ → Call
-  sets b l = set (orderAt n r) b l
+  sets b l = set Paper (orderAt n r) b l
 
   long : length (orderAt n r) ≡ n
   long = length-orderAt n r
@@ -57,20 +59,23 @@ module _ (n r : ℕ) (list bits log : List ℕ) (a : Accepted (rank n r list bit
   listed = rw yes
 
   same-outcome : outcomeOf ranks ≡ outcomeOf (sets bits log)
-  unfolding rankedCall setCall
+  unfolding rankedCall wiringOf
   same-outcome = rw (yes, set-yes, long)
 
   -- then by the log rule for set
   module _ (bits′ log′ : List ℕ) (b : Accepted (sets bits′ log′)) where
+    alike : Alike (sets bits log) (sets bits′ log′)
+    alike = record { wiring = refl; kind = refl; places = refl }
+
     same-log : written ranks ≡ written (sets bits′ log′)
     same-log =
         ap (λ (o : Logged). take (entryWords * o .answer .count) (o .log)) same-outcome
-        ∙ demand3 (sets bits log) (sets bits′ log′) set-accepted b .same-log refl refl
+        ∙ demand3 (sets bits log) (sets bits′ log′) set-accepted b .same-log alike
 
     same-count : countOf ranks ≡ countOf (sets bits′ log′)
     same-count =
         ap (λ (o : Logged). o .answer .count) same-outcome
-        ∙ demand3 (sets bits log) (sets bits′ log′) set-accepted b .same-count refl refl
+        ∙ demand3 (sets bits log) (sets bits′ log′) set-accepted b .same-count alike
 
     same-bits : outcomeOf ranks .buffer ≡ outcomeOf (sets bits′ log′) .buffer
     same-bits =

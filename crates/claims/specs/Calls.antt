@@ -8,16 +8,19 @@ use lib.ListN.{length, take}
 use Rattle.answers.specs.Questions.{Question}
 use Rattle.answers.specs.Outcomes.{Logged, logged}
 use Rattle.counts.specs.Counts.{W, E}
-use Rattle.network.specs.Wiring.{paper}
+use Rattle.network.specs.Wiring.{Wiring, paper}
 use Rattle.network.specs.Network.{network}
 use Rattle.network.specs.Blocks.{cut, bytesOf, moved, movedBack}
-use Rattle.network.specs.Log.{Entry, entryWords, entries, applyEntries, inverseEntries, runApply, runInverse}
+use Rattle.network.specs.Log.{Entry, entryWords, applyEntries, inverseEntries, runApply, runInverse}
 use Rattle.canonical.specs.Rule.{Canonical}
 use Rattle.steps.specs.Sequence.{setEntries}
 use Rattle.steps.specs.Run.{settingOf}
 use Rattle.apply_questions.specs.Questions.{applyQuestions}
-use Rattle.apply.specs.Calls.{applyCall, inverseCall}
-use Rattle.control.specs.Calls.{setQuestions, setCall}
+use Rattle.wirings.specs.declared.Topology.{Topology}
+use Rattle.wirings.specs.declared.Topology.the-variants.{Paper}
+use Rattle.wirings.specs.Nets.{wiringOf}
+use Rattle.apply.specs.Calls.{applyCallIn, inverseCallIn}
+use Rattle.control.specs.Calls.{setQuestions, setCallIn}
 use Rattle.ranks_order.specs.Ranks.{orderAt}
 use Rattle.ranks.specs.Calls.{Ranked, rankedQuestions, rankedCall}
 
@@ -28,20 +31,20 @@ pub data Direction : Type 0 where
   mixing : Direction
   returning : Direction
 
--- set: an order, the bits and the log; mix and return: n, the width, the blocks, the bits and the log; rank (02, F-3): n, the
--- number r of an order, the order's list, the bits and the log
+-- set: the wiring, an order, the bits and the log; mix and return: the wiring, n, the width, the blocks, the bits and the log;
+-- rank (02, F-3), in the paper's wiring: n, the number r of an order, the order's list, the bits and the log
 pub data Call : Type 0 where
-  set : (order bits log : List ℕ) → Call
-  move : (d : Direction) (n width : ℕ) (blocks bits log : List ℕ) → Call
+  set : (t : Topology) (order bits log : List ℕ) → Call
+  move : (t : Topology) (d : Direction) (n width : ℕ) (blocks bits log : List ℕ) → Call
   rank : (n r : ℕ) (list bits log : List ℕ) → Call
 
-abbrev pub mix : (n width : ℕ) (blocks bits log : List ℕ) → Call
-mix n width blocks bits log = move mixing n width blocks bits log
+abbrev pub mix : (t : Topology) (n width : ℕ) (blocks bits log : List ℕ) → Call
+mix t n width blocks bits log = move t mixing n width blocks bits log
 
-abbrev pub return : (n width : ℕ) (blocks bits log : List ℕ) → Call
-return n width blocks bits log = move returning n width blocks bits log
+abbrev pub return : (t : Topology) (n width : ℕ) (blocks bits log : List ℕ) → Call
+return t n width blocks bits log = move t returning n width blocks bits log
 
--- ---- what follows from a call's kind and n alone
+-- ---- what follows from a call's wiring, kind and n alone
 
 pub data Kind : Type 0 where
   setting : Kind
@@ -49,13 +52,13 @@ pub data Kind : Type 0 where
   ranking : Kind
 
 -- 01: 'exactly the sequence given here for its n'
-abbrev pub entriesDue : Kind → ℕ → List Entry
-entriesDue setting n = setEntries paper n
-entriesDue (moving mixing) n = applyEntries paper n
-entriesDue (moving returning) n = inverseEntries paper n
-entriesDue ranking n = setEntries paper n
+abbrev pub entriesDue : Topology → Kind → ℕ → List Entry
+entriesDue t setting n = setEntries (wiringOf t) n
+entriesDue t (moving mixing) n = applyEntries (wiringOf t) n
+entriesDue t (moving returning) n = inverseEntries (wiringOf t) n
+entriesDue t ranking n = setEntries (wiringOf t) n
 
--- the definition's count of them
+-- the definition's count of them, in every wiring
 abbrev pub countDue : Kind → ℕ → ℕ
 countDue setting n = E n
 countDue (moving d) n = W n
@@ -63,9 +66,9 @@ countDue ranking n = E n
 
 -- ---- what mix and return differ in
 
-abbrev pub moveCall : Direction → (n width : ℕ) (blocks bits log : List ℕ) → Logged
-moveCall mixing n width blocks bits log = applyCall n width blocks bits log
-moveCall returning n width blocks bits log = inverseCall n width blocks bits log
+abbrev pub moveCall : Wiring → Direction → (n width : ℕ) (blocks bits log : List ℕ) → Logged
+moveCall w mixing n width blocks bits log = applyCallIn w n width blocks bits log
+moveCall w returning n width blocks bits log = inverseCallIn w n width blocks bits log
 
 -- running entries on blocks: each takes its own lent bit
 abbrev pub runMove : Direction → ℕ → List ℕ → List Entry → List (List ℕ) → List (List ℕ)
@@ -73,9 +76,9 @@ runMove mixing n bits es blocks = runApply [] bits es blocks
 runMove returning n bits es blocks = runInverse [] n bits es blocks
 
 -- the blocks as the wiring moves them under the bits
-abbrev pub movedBy : Direction → (n width : ℕ) (bits blocks : List ℕ) → List ℕ
-movedBy mixing n width bits blocks = moved paper n width bits blocks
-movedBy returning n width bits blocks = movedBack paper n width bits blocks
+abbrev pub movedBy : Wiring → Direction → (n width : ℕ) (bits blocks : List ℕ) → List ℕ
+movedBy w mixing n width bits blocks = moved w n width bits blocks
+movedBy w returning n width bits blocks = movedBack w n width bits blocks
 
 -- ---- what rank comes to, as a call that keeps a log
 
@@ -86,7 +89,8 @@ asLogged o = logged (o .answer) (o .bits) (o .log)
 -- ---- each call, described
 
 pub record Described : Type 1 where
-  -- its kind, and n
+  -- its wiring, its kind, and n
+  pub wiring : Topology
   pub kind : Kind
   pub places : ℕ
   -- what it asks, and what it comes to
@@ -104,36 +108,39 @@ pub record Described : Type 1 where
   pub Right : List ℕ → Type 0
 
 abbrev pub described : Call → Described
-described (set order bits log) =
+described (set t order bits log) =
     record {
+      wiring = t;
       kind = setting;
       places = length order;
       questions = setQuestions order bits log;
-      outcome = setCall order bits log;
+      outcome = setCallIn (wiringOf t) order bits log;
       buffer = bits;
       log = log;
       beside = [];
       besideLeft = [];
-      run = λ es. settingOf paper order es;
+      run = λ es. settingOf (wiringOf t) order es;
       -- demand 2's setting
-      Right = λ left. Canonical paper (network (length order)) order left;
+      Right = λ left. Canonical (wiringOf t) (network (length order)) order left;
     }
-described (move d n width blocks bits log) =
+described (move t d n width blocks bits log) =
     record {
+      wiring = t;
       kind = moving d;
       places = n;
       questions = applyQuestions n width (length blocks) bits (length log);
-      outcome = moveCall d n width blocks bits log;
+      outcome = moveCall (wiringOf t) d n width blocks bits log;
       buffer = blocks;
       log = log;
       beside = [];
       besideLeft = [];
       run = λ es. bytesOf (runMove d n bits es (cut width n blocks));
       -- the blocks as the wiring moves them under the lent bits
-      Right = λ left. left ≡ movedBy d n width bits blocks;
+      Right = λ left. left ≡ movedBy (wiringOf t) d n width bits blocks;
     }
 described (rank n r list bits log) =
     record {
+      wiring = Paper;
       kind = ranking;
       places = n;
       questions = rankedQuestions n r list bits log;
@@ -152,6 +159,10 @@ described (rank n r list bits log) =
 abbrev pub outcomeOf : Call → Logged
 outcomeOf c = described c .outcome
 
+-- the wiring that it is in
+abbrev pub wiringOfCall : Call → Topology
+wiringOfCall c = described c .wiring
+
 -- a call is accepted when every question gets a yes: number 0
 abbrev pub Accepted : Call → Type 0
 Accepted c = outcomeOf c .answer .number ≡ 0
@@ -162,6 +173,9 @@ countOf c = outcomeOf c .answer .count
 
 abbrev pub due : Call → ℕ
 due c = countDue (described c .kind) (described c .places)
+
+abbrev pub dueEntries : Call → List Entry
+dueEntries c = entriesDue (wiringOfCall c) (described c .kind) (described c .places)
 
 -- the whole log that it wrote: three words for each entry that it reports
 abbrev pub written : Call → List ℕ

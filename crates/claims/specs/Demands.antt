@@ -7,7 +7,7 @@ use Rattle.answers.specs.Questions.{noAt, allYes, firstNo}
 use Rattle.answers.specs.Buffers.{overlay}
 use Rattle.answers.specs.Outcomes.{logged}
 use Rattle.network.specs.Log.{words, entries}
-use Rattle.claims.specs.Calls.{Call, described, entriesDue, outcomeOf, Accepted, countOf, due, written}
+use Rattle.claims.specs.Calls.{Call, described, outcomeOf, wiringOfCall, Accepted, countOf, due, dueEntries, written}
 
 -- demand 1, of one call: it is accepted exactly when every question gets a yes; refused, it names the first question that
 -- gets a no and leaves all lent memory as it was
@@ -20,9 +20,9 @@ pub record Demand1 (c : Call) : Type 0 where
 
 -- what holds of the whole log of one accepted call
 pub record Logs (c : Call) : Type 0 where
-  -- it reports the definition's count, and wrote exactly the sequence given for its kind and n
+  -- it reports the definition's count, and wrote exactly the sequence given for its wiring, kind and n
   pub count : countOf c ≡ due c
-  pub exact : entries (written c) ≡ entriesDue (described c .kind) (described c .places)
+  pub exact : entries (written c) ≡ dueEntries c
   -- nothing but the entries' words is written, and the log beyond them is as it was
   pub whole : written c ≡ words (entries (written c))
   pub beyond : outcomeOf c .log ≡ overlay (described c .log) 0 (written c)
@@ -30,10 +30,16 @@ pub record Logs (c : Call) : Type 0 where
   pub replays : described c .run (entries (written c)) ≡ outcomeOf c .buffer
   pub right : described c .Right (outcomeOf c .buffer)
 
--- demand 3, of two calls: accepted and alike in kind and n they write the same log and report the same count, whatever
--- else they were handed; and each one's whole log replays
+-- the log rule compares calls in one wiring (02, F-6), alike in kind and n
+pub record Alike (a b : Call) : Type 0 where
+  pub wiring : wiringOfCall a ≡ wiringOfCall b
+  pub kind : described a .kind ≡ described b .kind
+  pub places : described a .places ≡ described b .places
+
+-- demand 3, of two calls: accepted and alike they write the same log and report the same count, whatever else they were handed;
+-- and each one's whole log replays
 pub record Demand3 (a b : Call) : Type 0 where
-  pub same-log : described a .kind ≡ described b .kind → described a .places ≡ described b .places → written a ≡ written b
-  pub same-count : described a .kind ≡ described b .kind → described a .places ≡ described b .places → countOf a ≡ countOf b
+  pub same-log : Alike a b → written a ≡ written b
+  pub same-count : Alike a b → countOf a ≡ countOf b
   pub first : Logs a
   pub second : Logs b

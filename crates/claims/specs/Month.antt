@@ -1,4 +1,4 @@
--- The starred month cases of 01, as one table: what each case hands in, and what has to come of it.
+-- The starred month cases of 01, in the paper's wiring, as one table: what each case hands in, and what has to come of it.
 -- Assumes nothing: these are definitions.
 use mathlib.Core.List.{List, [], _∷_, _++_}
 use Prim.Native.Nat.{ℕ, _*_}
@@ -10,6 +10,7 @@ use Rattle.counts.specs.Counts.{W, E}
 use Rattle.network.specs.Log.{entryWords}
 use Rattle.sheets.specs.Calls.{writeSheet, readSheet}
 use Rattle.shuffle.specs.Shuffled.{Shuffled, shuffleCall}
+use Rattle.wirings.specs.declared.Topology.the-variants.{Paper}
 use Rattle.claims.specs.Calls.{set, mix, return, outcomeOf}
 
 pub data Case : Type 0 where
@@ -53,13 +54,15 @@ both a b = record { answers = a .answers ++ b .answers; beside = a .beside ++ b 
 abbrev pub runCase : Case → Result
 runCase (sets order setting sheet) =
     both
-    (ofLogged (outcomeOf (set order (lent (W (length order))) (lent (entryWords * E (length order))))))
+    (ofLogged (outcomeOf (set Paper order (lent (W (length order))) (lent (entryWords * E (length order))))))
     (ofOutcome (writeSheet (length order) setting (lent (length sheet))))
-runCase (mixes setting blocks moved) = ofLogged (outcomeOf (mix (length blocks) 1 blocks setting (lent (entryWords * length setting))))
-runCase (returns setting blocks moved) = ofLogged (outcomeOf (return (length blocks) 1 blocks setting (lent (entryWords * length setting))))
+runCase (mixes setting blocks moved) =
+    ofLogged (outcomeOf (mix Paper (length blocks) 1 blocks setting (lent (entryWords * length setting))))
+runCase (returns setting blocks moved) =
+    ofLogged (outcomeOf (return Paper (length blocks) 1 blocks setting (lent (entryWords * length setting))))
 runCase (draws words order used) = ofShuffled (shuffleCall (length order) words (lent (length order)))
 runCase (refusesOrder order number place) =
-    let o = outcomeOf (set order (lent (W (length order))) (lent (entryWords * E (length order)))) in
+    let o = outcomeOf (set Paper order (lent (W (length order))) (lent (entryWords * E (length order)))) in
     result (o .answer ∷ []) (o .buffer ∷ o .log ∷ [])
 runCase (refusesSheet sheet number place) = ofOutcome (readSheet sheet (lent 9))
 

@@ -10,6 +10,7 @@ use Rattle.counts.specs.Counts.{W, E}
 use Rattle.network.specs.Wiring.{paper}
 use Rattle.network.specs.Network.{network}
 use Rattle.canonical.specs.Rule.{Canonical}
+use Rattle.wirings.specs.declared.Topology.the-variants.{Paper}
 use Rattle.ranks_order.specs.Ranks.{orderAt, ListedOnce}
 use Rattle.claims.specs.Carrying.{RoomToSet}
 use Rattle.claims.specs.Calls.{set, rank, described, outcomeOf, Accepted, countOf, written}
@@ -18,16 +19,16 @@ use Rattle.claims.specs.Calls.{set, rank, described, outcomeOf, Accepted
 pub record AsSet (n r : ℕ) (list bits log : List ℕ) : Type 0 where
   -- the order stands over the front of its list
   pub listed : described (rank n r list bits log) .besideLeft ≡ overlay list 0 (orderAt n r) ∷ []
-  -- lent the same bits and log, set is accepted on that order and comes to the same
-  pub set-accepted : Accepted (set (orderAt n r) bits log)
-  pub same-outcome : outcomeOf (rank n r list bits log) ≡ outcomeOf (set (orderAt n r) bits log)
+  -- lent the same bits and log, set in the paper's wiring is accepted on that order and comes to the same
+  pub set-accepted : Accepted (set Paper (orderAt n r) bits log)
+  pub same-outcome : outcomeOf (rank n r list bits log) ≡ outcomeOf (set Paper (orderAt n r) bits log)
   -- lent any others and accepted, set writes the same log, reports the same count and leaves the same bits
-  pub same-log : (bits′ log′ : List ℕ) → Accepted (set (orderAt n r) bits′ log′)
-      → written (rank n r list bits log) ≡ written (set (orderAt n r) bits′ log′)
-  pub same-count : (bits′ log′ : List ℕ) → Accepted (set (orderAt n r) bits′ log′)
-      → countOf (rank n r list bits log) ≡ countOf (set (orderAt n r) bits′ log′)
-  pub same-bits : (bits′ log′ : List ℕ) → Accepted (set (orderAt n r) bits′ log′)
-      → outcomeOf (rank n r list bits log) .buffer ≡ outcomeOf (set (orderAt n r) bits′ log′) .buffer
+  pub same-log : (bits′ log′ : List ℕ) → Accepted (set Paper (orderAt n r) bits′ log′)
+      → written (rank n r list bits log) ≡ written (set Paper (orderAt n r) bits′ log′)
+  pub same-count : (bits′ log′ : List ℕ) → Accepted (set Paper (orderAt n r) bits′ log′)
+      → countOf (rank n r list bits log) ≡ countOf (set Paper (orderAt n r) bits′ log′)
+  pub same-bits : (bits′ log′ : List ℕ) → Accepted (set Paper (orderAt n r) bits′ log′)
+      → outcomeOf (rank n r list bits log) .buffer ≡ outcomeOf (set Paper (orderAt n r) bits′ log′) .buffer
 
 -- memory lent for an order of n places: room for it, a byte for each bit, and set's log
 pub record RoomToRank (n : ℕ) (list bits log : List ℕ) : Type 0 where

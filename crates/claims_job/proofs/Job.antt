@@ -37,6 +37,8 @@ use Rattle.cmd_order.proofs.Asking.{places-small}
 use Rattle.cmd_draw.specs.Draw.{wordAt, bytesFor, wordsIn, orderBytes, drawQuestions, drawFrom, drawCall}
 use Rattle.cmd_draw.proofs.Drawn.{wanted}
 use Rattle.cmd_sheet.specs.Calls.{sheetFor, sheetCall}
+use Rattle.wirings.specs.declared.Topology.the-variants.{Paper}
+use Rattle.wirings.specs.Nets.{wiringOf}
 use Rattle.claims.specs.Carrying.{Demand2}
 use Rattle.claims.proofs.Carrying.{demand2}
 use Rattle.claims_job.specs.Job.{written, Holds, Drawn, Made, Job}
@@ -97,10 +99,11 @@ module _ (n : ℕ) (order input out : List ℕ) (H : Holds n order input) where
       let long : length es ≡ n = numbers-length sevens input (countIn input) (entriesAt input) ∙ H .places in
       rw (H .entries) at (rw long at (passes-permutation es all))
 
-  D : Demand2 n order
-  D = demand2 n order small held
+  D : Demand2 Paper n order
+  D = demand2 Paper n order small held
 
   setting-is : settingFor paper order ≡ D .house .setting
+  unfolding wiringOf
   setting-is = rw (held .whole) (D .house .only _ (setting-canonical paper-lawful n order held))
 
   abbrev made : List ℕ
@@ -120,6 +123,7 @@ module _ (n : ℕ) (order input out : List ℕ) (H : Holds n order input) where
   wrote = rw sheet-is (overlay-read out made)
 
   makes : Made n order (sheetCall input out)
+  unfolding wiringOf
   makes =
       let long : length (D .house .setting) ≡ W n = D .house-setting .count in
       record {

@@ -2,10 +2,9 @@
 -- Assumes nothing.
 use mathlib.Core.Path.{_≡_, refl, sym, ap, _∙_}
 use mathlib.Core.List.{List}
-use Prim.Native.Nat.{ℕ, _*_, _≤_, _<_}
+use Prim.Native.Nat.{ℕ, _*_, _≤_}
 use native.Mathlib.Omega.{arith}
 use lib.ListN.{length, take, replicate, length-replicate}
-use Rattle.answers.specs.declared.Answer.{Answer}
 use Rattle.answers.specs.Answers.{accepted}
 use Rattle.answers.specs.Buffers.{overlay}
 use Rattle.answers.specs.Outcomes.{Outcome, outcome}
@@ -19,19 +18,20 @@ use Rattle.permutation.specs.Permutations.{IsPermutation}
 use Rattle.canonical.proofs.Paper.{paper-order}
 use Rattle.sheets.specs.Sheet.{sheet}
 use Rattle.sheets.specs.Calls.{SettingRead}
-use Rattle.apply.specs.Calls.{applyCall, inverseCall}
+use Rattle.wirings.specs.declared.Topology.the-variants.{Paper}
+use Rattle.wirings.specs.Nets.{wiringOf}
 use Rattle.cmd_move.specs.Calls.{mixCall, unmixCall}
 use Rattle.cmd_move.proofs.Moving.{move-settles}
 use Rattle.cmd_show.specs.Show.{settingText, showCall}
 use Rattle.cmd_show.proofs.Showing.{show-done}
 use Rattle.claims.specs.Calls.{Call, mixing, returning, mix, return, outcomeOf}
 use Rattle.claims.specs.Carrying.{Filled, RoomToMove, Demand2}
-use Rattle.claims.proofs.Demands.{accepted-passes, leaves, length-movedBy}
+use Rattle.claims.proofs.Carrying.{moved-fill, sheets-read-back}
 use Rattle.sheets.proofs.Setting.{setting-read}
 use Rattle.numbers.specs.declared.ReadNumber.the-variants.{Number}
 use Rattle.claims_job.specs.Job.{Moves, shown}
 
-module _ (n : ℕ) (order : List ℕ) (small : n ≤ 1024) (D : Demand2 n order) where
+module _ (n : ℕ) (order : List ℕ) (small : n ≤ 1024) (D : Demand2 Paper n order) where
   abbrev setting : List ℕ
   setting = D .house .setting
 
@@ -43,7 +43,7 @@ module _ (n : ℕ) (order : List ℕ) (small : n ≤ 1024) (D : Demand2 n order)
     read : SettingRead made (overlay buffer 0 setting) (Number n (W n))
     read =
         setting-read made buffer room {read = accepted n}
-        (sym (D .sheet-read setting buffer (D .house-setting) (omega (arith, room, switches-few n small)))) refl refl
+        (sym (sheets-read-back n small .sheet-read setting buffer (D .house-setting) (omega (arith, room, switches-few n small)))) refl refl
 
     front : take (W n) (overlay buffer 0 setting) ≡ setting
     front =
@@ -54,13 +54,13 @@ module _ (n : ℕ) (order : List ℕ) (small : n ≤ 1024) (D : Demand2 n order)
     abbrev unlogged : Call → Outcome
     unlogged c = outcome (outcomeOf c .answer) (outcomeOf c .buffer)
 
-    mix-is : (width : ℕ) (blocks : List ℕ) → mixCall made width blocks ≡ unlogged (mix n width blocks setting log)
-    unfolding mixCall applyCall
+    mix-is : (width : ℕ) (blocks : List ℕ) → mixCall made width blocks ≡ unlogged (mix Paper n width blocks setting log)
+    unfolding mixCall wiringOf
     mix-is width blocks =
         sym (move-settles (moved paper) made width blocks read refl (rw (front, log-room)))
 
-    unmix-is : (width : ℕ) (blocks : List ℕ) → unmixCall made width blocks ≡ unlogged (return n width blocks setting log)
-    unfolding unmixCall inverseCall
+    unmix-is : (width : ℕ) (blocks : List ℕ) → unmixCall made width blocks ≡ unlogged (return Paper n width blocks setting log)
+    unfolding unmixCall wiringOf
     unmix-is width blocks =
         sym (move-settles (movedBack paper) made width blocks read refl (rw (front, log-room)))
 
@@ -69,17 +69,10 @@ module _ (n : ℕ) (order : List ℕ) (small : n ≤ 1024) (D : Demand2 n order)
 
     module _ (width : ℕ) (blocks : List ℕ) (F : Filled n width blocks) where
       abbrev mixed : List ℕ
-      mixed = outcomeOf (mix n width blocks setting log) .buffer
+      mixed = outcomeOf (mix Paper n width blocks setting log) .buffer
 
       mixed-fill : Filled n width mixed
-      mixed-fill =
-          let c = mix n width blocks setting log in
-          let yes = accepted-passes c (ap (λ (a : Answer). a .number) (D .move-accepted mixing width blocks log F fits)) in
-          record {
-            some-width = F .some-width;
-            width-small = F .width-small;
-            blocks-fill = ap length (leaves c yes .buffer) ∙ length-movedBy n width blocks setting log mixing (F .blocks-fill);
-          }
+      mixed-fill = moved-fill Paper n setting small (D .house-setting) width blocks log F fits mixing
 
       returned : unmixCall made width (mixCall made width blocks .buffer) ≡ outcome (accepted (W n)) blocks
       returned =
@@ -98,7 +91,7 @@ module _ (n : ℕ) (order : List ℕ) (small : n ≤ 1024) (D : Demand2 n order)
         }
 
     text-is : IsPermutation n order → settingText n (take (W n) (overlay buffer 0 setting)) ≡ shown n setting order
-    unfolding settingText
+    unfolding settingText wiringOf
     text-is O = ap (settingText n) front ∙ ap (shown n setting) (paper-order n order O setting (D .house .canonical))
 
     shows-so : IsPermutation n order → (out : List ℕ)

@@ -16,6 +16,7 @@ use Rattle.counts.specs.Counts.{W}
 use Rattle.network.specs.Wiring.{paper}
 use Rattle.network.specs.Log.{Entry, entry, entryWords, words, entryAt, applyEntries}
 use Rattle.network.proofs.Shape.{entryAt-front, length-applyEntries}
+use Rattle.network.proofs.Paper.{paper-lawful}
 use Rattle.permutation.proofs.Tables.{is-tabulate}
 use Rattle.apply.specs.Calls.{applyCall}
 use Rattle.apply_questions.proofs.Asked.{Fits}
@@ -79,7 +80,7 @@ pub picture-in :
     → length log ≡ entryWords * 49
     → logged a after log′ ≡ applyCall n 1 blocks bits log
     → heading n bits ++ rowsIn n log′ bits n ≡ picture n bits
-unfolding picture
+unfolding picture applyCall
 picture-in n bits blocks log few count areBits long room e =
     let f : Fits n 1 (length blocks) bits (length log) =
     record {
@@ -94,7 +95,7 @@ picture-in n bits blocks log few count areBits long room e =
     in
     ap (λ l. heading n bits ++ l)
     (rows-in log (applyEntries paper n) bits (count ∙ sym (length-applyEntries paper n))
-    (ap (λ (o : Logged). o .log) (e ∙ apply-accepted n 1 blocks bits log f)) n n)
+    (ap (λ (o : Logged). o .log) (e ∙ apply-accepted paper-lawful n 1 blocks bits log f)) n n)
 
 -- the heading and the rows, one behind the other
 module _ (n : ℕ) (bits log : List ℕ) (e : heading n bits ++ rowsIn n log bits n ≡ picture n bits) (a : List ℕ) (at : ℕ) (h : at + length (picture n bits) ≤ length a) where

@@ -11,7 +11,6 @@ use Rattle.answers.specs.Answers.{accepted}
 use Rattle.answers.specs.Questions.{firstNo}
 use Rattle.answers.specs.Buffers.{overlay, Put}
 use Rattle.answers.specs.Outcomes.{outcome}
-use Rattle.answers.proofs.Buffers.{overlay-read, overlay-length}
 use Rattle.answers.proofs.Outcomes.{ends-refused, ends-accepted}
 use Rattle.network.specs.Wiring.{paper}
 use Rattle.network.specs.Blocks.{orderOf}
@@ -38,16 +37,6 @@ places-line n h = simp length-append (omega (arith, digits-few 3 n (let z : n < 
 -- 8 + 9,217 + 1
 pub setting-line : (bits : List ℕ) → length bits ≤ 9217 → length (line "setting " (bitsText bits)) ≤ 9226
 setting-line bits h = simp length-append (omega (arith, bits-within bits 9217 (omega arith) h))
-
--- the order that stands at the front
-pub order-front : (n : ℕ) (bits before : List ℕ) {order : List ℕ} → order ≡ overlay before 0 (orderOf paper n bits) → take n order ≡ orderOf paper n bits
-order-front n bits before e =
-    let o = orderOf paper n bits in
-    rw e (ap (λ m. take m (overlay before 0 o)) (sym (length-order paper-lawful n bits)) ∙ overlay-read before o)
-
-pub order-room : (n : ℕ) (bits before : List ℕ) {order : List ℕ} → n ≤ length before → order ≡ overlay before 0 (orderOf paper n bits) → n ≤ length order
-order-room n bits before h e =
-    omega (arith, ap length e, overlay-length before 0 (orderOf paper n bits) (omega (arith, length-order paper-lawful n bits)))
 
 pub order-line :
     {a : List ℕ} {at : ℕ} {r : ℕ} {b : List ℕ} {q : ℕ} {c : List ℕ} {t : ℕ} {d : List ℕ} (order : List ℕ)

@@ -15,13 +15,13 @@ use Rattle.answers.proofs.Questions.{asked-yes, asked-no}
 use Rattle.answers.proofs.Outcomes.{logged-refused, logged-accepted}
 use Rattle.answers.proofs.Buffers.{overlay-whole}
 use Rattle.counts.specs.Counts.{W, E}
-use Rattle.network.specs.Wiring.{paper}
+use Rattle.network.specs.Wiring.{Wiring}
 use Rattle.network.specs.Log.{entryWords, words}
 use Rattle.permutation.specs.Permutations.{goodEntry, firstBadEntry}
 use Rattle.steps.specs.Sequence.{setEntries}
-use Rattle.steps.specs.Run.{settingOf}
-use Rattle.control_order.specs.Inner.{Sets}
-use Rattle.control.specs.Calls.{setQuestions, setCall}
+use Rattle.steps.specs.Setting.{settingFor}
+use Rattle.control_order.specs.Inner.{SetsIn}
+use Rattle.control.specs.Calls.{setQuestions, setCallIn}
 
 module _ (order bits log : List ℕ) where
   from-6 : List Question
@@ -77,17 +77,15 @@ module _ (order bits log : List ℕ) where
             ∙ asked-yes 6 (firstBadEntry order) (eqb (firstBadEntry order) (length order)) [] (eq-eqb (firstBadEntry order) (length order) e)
 
   -- a refused call: nothing is written
-  pub refused : {a : Answer} {bits′ log′ : List ℕ} (q p : ℕ) → firstNo (setQuestions order bits log) ≡ noAt q p → a ≡ refusal q p → bits′ ≡ bits
-      → log′ ≡ log → logged a bits′ log′ ≡ setCall order bits log
-  unfolding setCall
-  refused q p e r b l = logged-refused _ _ _ _ _ _ e r b l
+  pub refused : (w : Wiring) {a : Answer} {bits′ log′ : List ℕ} (q p : ℕ) → firstNo (setQuestions order bits log) ≡ noAt q p → a ≡ refusal q p → bits′ ≡ bits
+      → log′ ≡ log → logged a bits′ log′ ≡ setCallIn w order bits log
+  refused w q p e r b l = logged-refused _ _ _ _ _ _ e r b l
 
   -- an accepted call: what the setter left
-  pub taken : {a : Answer} {bits′ log′ : List ℕ} (count : ℕ) → firstNo (setQuestions order bits log) ≡ allYes → Sets order log count bits′ log′
-      → length bits′ ≡ length bits → a ≡ accepted count → logged a bits′ log′ ≡ setCall order bits log
-  unfolding setCall
-  taken count e S k r =
-      logged-accepted (firstNo (setQuestions order bits log)) (E (length order)) (settingOf paper order (setEntries paper (length order))) bits
-      (words (setEntries paper (length order))) log e (r ∙ ap accepted (S .count))
-      (S .bits-are ∙ sym (overlay-whole bits (settingOf paper order (setEntries paper (length order))) (ap length (sym (S .bits-are)) ∙ k)))
+  pub taken : (w : Wiring) {a : Answer} {bits′ log′ : List ℕ} (count : ℕ) → firstNo (setQuestions order bits log) ≡ allYes → SetsIn w order log count bits′ log′
+      → length bits′ ≡ length bits → a ≡ accepted count → logged a bits′ log′ ≡ setCallIn w order bits log
+  taken w count e S k r =
+      logged-accepted (firstNo (setQuestions order bits log)) (E (length order)) (settingFor w order) bits
+      (words (setEntries w (length order))) log e (r ∙ ap accepted (S .count))
+      (S .bits-are ∙ sym (overlay-whole bits (settingFor w order) (ap length (sym (S .bits-are)) ∙ k)))
       (S .log-is)

@@ -1,4 +1,4 @@
--- 01: set. Its questions, and what the whole call comes to.
+-- 01: set. Its questions, and what the whole call comes to, in each wiring (02, F-6) and in the paper's.
 -- Assumes nothing: these are definitions.
 use mathlib.Core.List.{List, [], _∷_}
 use Prim.Native.Nat.{ℕ, _*_}
@@ -7,7 +7,7 @@ use lib.ListN.{length}
 use Rattle.answers.specs.Questions.{Question, ask, askEach, firstNo}
 use Rattle.answers.specs.Outcomes.{Logged, settledLogged}
 use Rattle.counts.specs.Counts.{W, E}
-use Rattle.network.specs.Wiring.{paper}
+use Rattle.network.specs.Wiring.{Wiring, paper}
 use Rattle.network.specs.Log.{entryWords, words}
 use Rattle.permutation.specs.Permutations.{goodEntry}
 use Rattle.steps.specs.Sequence.{setEntries}
@@ -23,12 +23,15 @@ setQuestions order bits log =
     ∷ []
 
 -- the bits left by running the entries from the order; the entries as words; the count of them
-unfoldable pub setCall : List ℕ → List ℕ → List ℕ → Logged
-setCall order bits log =
+abbrev pub setCallIn : Wiring → List ℕ → List ℕ → List ℕ → Logged
+setCallIn w order bits log =
     settledLogged
     (firstNo (setQuestions order bits log))
     (E (length order))
-    (settingFor paper order)
+    (settingFor w order)
     bits
-    (words (setEntries paper (length order)))
+    (words (setEntries w (length order)))
     log
+
+unfoldable pub setCall : List ℕ → List ℕ → List ℕ → Logged
+setCall = setCallIn paper

@@ -9,10 +9,8 @@ use lib.Seq.{ext-getD}
 use Rattle.answers.specs.Buffers.{overlay}
 use Rattle.counts.specs.Counts.{up, W, E}
 use Rattle.permutation.specs.Permutations.{IsPermutation}
-use Rattle.network.specs.Wiring.{paper}
 use Rattle.network.specs.Network.{network}
 use Rattle.network.specs.Log.{entryWords, words}
-use Rattle.network.proofs.Paper.{paper-lawful}
 use Rattle.network.proofs.Shape.{sized}
 use Rattle.steps.specs.Sweeps.{each}
 use Rattle.steps.specs.State.{State, start}
@@ -23,15 +21,15 @@ use Rattle.steps.proofs.Running.{run-is-fold}
 use Rattle.steps.proofs.Sweeps.{length-each, each-at}
 use Rattle.steps.proofs.Lengths.{length-entries}
 use Rattle.steps_canonical.specs.Table.{Ordered}
-use Rattle.wirings.specs.declared.Topology.the-variants.{Paper}
-use Rattle.wirings.specs.declared.Net.{Net}
+use Rattle.wirings.specs.declared.Topology.{Topology}
 use Rattle.wirings.specs.Nets.{wiringOf, wholeOf, placeOf}
+use Rattle.wirings.proofs.Halves.{lawful}
 use Rattle.control_sweeps.specs.Tables.{Below, Covers}
 use Rattle.control_pairs.proofs.Held.{zero-at}
 use Rattle.control_walk.specs.declared.Walk.{Walk}
 use Rattle.control_walk.specs.Walks.{subnetworkOf, Went}
 use Rattle.control_network.specs.Inner.{Room, Tidy, Lengthens, unmarked}
-use Rattle.control_order.specs.Inner.{Sets}
+use Rattle.control_order.specs.Inner.{SetsIn}
 
 unlike-self : (n : ℕ) → Unlike n (λ i. i)
 unfolding Unlike
@@ -66,17 +64,13 @@ pub zeros-below : (b n : ℕ) → 0 < b → Below b (replicate {A = ℕ} n 0)
 unfolding Below
 zeros-below b n h i = rw (zero-at n i) h
 
--- the network of all n places, as the code makes it
-abbrev pub all : ℕ → Net
-all n = wholeOf Paper n
+-- where place i of the network of all n places lies
+at : (t : Topology) (n : ℕ) → _≡_ {A = ℕ → ℕ} (placeOf (wholeOf t n)) (λ i. i)
+at t n = fun-ext (λ i. omega arith)
 
--- where place i of it lies
-at : (n : ℕ) → _≡_ {A = ℕ → ℕ} (placeOf (all n)) (λ i. i)
-at n = fun-ext (λ i. omega arith)
-
-pub zeros-lengthen : (n : ℕ) → n ≤ 1024 → Lengthens (placeOf (all n)) n (replicate {A = ℕ} n 0)
+pub zeros-lengthen : (t : Topology) (n : ℕ) → n ≤ 1024 → Lengthens (placeOf (wholeOf t n)) n (replicate {A = ℕ} n 0)
 unfolding Lengthens
-zeros-lengthen n h i l = rw (zero-at n (0 + i * 1)) (omega arith)
+zeros-lengthen t n h i l = rw (zero-at n (0 + i * 1)) (omega arith)
 
 abbrev pub still : Walk
 still = record { f = 0; c = 0; g = 0; s = 0; any = 0; e = 0; b = 0 }
@@ -91,9 +85,9 @@ tidy-start order =
       s-below = omega arith;
     }
 
-pub ordered-start : (order vs ts bs : List ℕ) → length order ≤ 1024 → IsPermutation (length order) order → vs ≡ order
-    → length ts ≡ length order → length bs ≡ W (length order) → Ordered (subnetworkOf (all (length order)) 0) (unmarked 512 vs ts bs still)
-ordered-start order vs ts bs h P e lt lb =
+pub ordered-start : (t : Topology) (order vs ts bs : List ℕ) → length order ≤ 1024 → IsPermutation (length order) order → vs ≡ order
+    → length ts ≡ length order → length bs ≡ W (length order) → Ordered (subnetworkOf (wholeOf t (length order)) 0) (unmarked 512 vs ts bs still)
+ordered-start t order vs ts bs h P e lt lb =
     let lv : length vs ≡ length order = ap length e in
     record {
       order = order;
@@ -105,7 +99,7 @@ ordered-start order vs ts bs h P e lt lb =
             marks-room = omega (arith, length-replicate {A = ℕ} 512 0);
             bits-room = omega (arith, lb);
             unmarked = λ i. zero-at 512 i;
-            order = λ i l. ap (λ (place : ℕ → ℕ). getD vs (place i) 0) (at (length order)) ∙ ap (λ (l : List ℕ). getD l i 0) e;
+            order = λ i l. ap (λ (place : ℕ → ℕ). getD vs (place i) 0) (at t (length order)) ∙ ap (λ (l : List ℕ). getD l i 0) e;
           };
     }
 
@@ -115,34 +109,34 @@ pub start-is : (order vs ts bs : List ℕ) → vs ≡ order → ts ≡ replicate
 start-is order vs ts bs e₁ e₂ e₃ = rw (e₁, e₂, e₃)
 
 -- the setter from the start: what the recursion left is what running the entries leaves
-pub sets-whole : (order vs ts bs bits log bits′ log′ : List ℕ) (vs′ ts′ : List ℕ) (r : Walk)
+pub sets-whole : (t : Topology) (order vs ts bs bits log bits′ log′ : List ℕ) (vs′ ts′ : List ℕ) (r : Walk)
     → vs ≡ order → ts ≡ replicate {A = ℕ} (length order) 0
     → bs ≡ each (λ i. i) (length bits) (λ i x. 0) bits → length bits ≡ W (length order)
-    → Went (entriesOf (wiringOf Paper) (network (length order)) (placeOf (all (length order)))) (W (length order)) still r log log′
+    → Went (entriesOf (wiringOf t) (network (length order)) (placeOf (wholeOf t (length order)))) (W (length order)) still r log log′
     → ((j : ℕ) → up (length order) ≤ j
-    → unmarked j vs′ ts′ bits′ r ≡ setNet (wiringOf Paper) (network (length order)) (placeOf (all (length order))) 0
+    → unmarked j vs′ ts′ bits′ r ≡ setNet (wiringOf t) (network (length order)) (placeOf (wholeOf t (length order))) 0
     (unmarked j vs ts bs still))
-    → Sets order log (r .e) bits′ log′
-unfolding setEntries wiringOf
-sets-whole order vs ts bs bits log bits′ log′ vs′ ts′ r e₁ e₂ e₄ l G S =
+    → SetsIn (wiringOf t) order log (r .e) bits′ log′
+unfolding setEntries
+sets-whole t order vs ts bs bits log bits′ log′ vs′ ts′ r e₁ e₂ e₄ l G S =
     let n : ℕ = length order in
-    let q = at n in
+    let q = at t n in
     let before : State = unmarked (up n) vs ts bs still in
     let s : before ≡ start order = start-is order vs ts bs e₁ e₂ (e₄ ∙ cleared bits (W n) l) in
     record {
-      count = omega (arith, G .count, length-entries paper (sized n) (placeOf (all n)));
+      count = omega (arith, G .count, length-entries (wiringOf t) (sized n) (placeOf (wholeOf t n)));
       bits-are =
-          ap (λ (x : State). x .bits) (S (up n) (omega arith) ∙ ap (λ (p : ℕ → ℕ). setNet paper (network n) p 0 before) q)
-          ∙ ap (λ (x : State). setNet paper (network n) (λ i. i) 0 x .bits) s
-          ∙ ap (λ (x : State). x .bits) (sym (run-is-fold paper paper-lawful n (start order)));
-      log-is = G .log ∙ ap (λ (p : ℕ → ℕ). overlay log 0 (words (entriesOf paper (network n) p))) q;
+          ap (λ (x : State). x .bits) (S (up n) (omega arith) ∙ ap (λ (p : ℕ → ℕ). setNet (wiringOf t) (network n) p 0 before) q)
+          ∙ ap (λ (x : State). setNet (wiringOf t) (network n) (λ i. i) 0 x .bits) s
+          ∙ ap (λ (x : State). x .bits) (sym (run-is-fold (wiringOf t) (lawful t) n (start order)));
+      log-is = G .log ∙ ap (λ (p : ℕ → ℕ). overlay log 0 (words (entriesOf (wiringOf t) (network n) p))) q;
     }
 
 -- and the room that it starts with
-pub room-start : (order vs ts ps bs log : List ℕ) → length order ≤ 1024 → length vs ≡ length order → ts ≡ replicate {A = ℕ} (length order) 0
+pub room-start : (t : Topology) (order vs ts ps bs log : List ℕ) → length order ≤ 1024 → length vs ≡ length order → ts ≡ replicate {A = ℕ} (length order) 0
     → 512 ≤ length ps → length bs ≡ W (length order) → length bs ≤ 9217 → entryWords * E (length order) ≤ length log
-    → Room (all (length order)) still vs ts ps bs log
-room-start order vs ts ps bs log h lv et lp lb few ll =
+    → Room (wholeOf t (length order)) still vs ts ps bs log
+room-start t order vs ts ps bs log h lv et lp lb few ll =
     let n : ℕ = length order in
     let lt : length ts ≡ n = ap length et ∙ length-replicate {A = ℕ} n 0 in
     record {
@@ -154,5 +148,5 @@ room-start order vs ts ps bs log h lv et lp lb few ll =
       log-room = omega arith;
     }
   where
-    covers : (xs : List ℕ) → length xs ≡ length order → Covers (all (length order)) xs
+    covers : (xs : List ℕ) → length xs ≡ length order → Covers (wholeOf t (length order)) xs
     covers xs e = record { inside = record { apart = omega arith; lies = λ i l. omega arith }; short = omega arith }

@@ -13,7 +13,7 @@ pub fn gather(row: &mut [u16; 1024], xs: &[u16], o: usize, apart: usize, m: usiz
     requires { ⌜ (m ≤ 1024) × ((i : ℕ) → i < m → o + i * apart < length (now xs)) ⌝ }
     ensures { λ _. ⌜ Gathered (λ i. o + i * apart) m (now (xs .entry)) (now (row .exit)) × Padded m (now (row .exit)) ⌝ }
 {
-    // told apart only so that the loop is compiled anew: of neighbours it takes several at a time
+    // told apart only so that the loop is compiled anew: of places side by side it takes several at a time
     if apart == 1 {
         fill(row, xs, o, 1, m);
     } else {

@@ -1,23 +1,18 @@
--- The paper's pairs with no branch.
+-- The pairs of each wiring with no branch.
 -- Assumes nothing.
 use mathlib.Core.Path.{_≡_, refl}
 use mathlib.Core.Bool.{Bool, true, false, not, cond}
-use Prim.Native.Nat.{ℕ, _+_, _-_, _*_, _≤_, _<_}
+use Prim.Native.Nat.{ℕ, _+_, _-_, _*_, _%_, _≤_, _<_}
 use native.Mathlib.Omega.{arith}
 use native.Mathlib.Decide.{decLt}
 use lib.Bits.{bitAnd}
 use lib.Dec.{ltb, eqb}
-use borrow.Author.Tests.{lt-ltb, le-ltb}
-use Rattle.network.specs.Wiring.{paper}
+use borrow.Author.Tests.{lt-ltb, le-ltb, eq-eqb, ne-eqb}
+use Rattle.network.specs.Wiring.{paper, neighbour}
 use Rattle.steps.specs.Steps.{other, digit}
-use Rattle.wirings.specs.declared.Topology.{Topology}
-use Rattle.wirings.specs.declared.Topology.the-variants.{Paper}
-use Rattle.wirings.specs.Nets.{wiringOf}
 use Rattle.control_numbers.proofs.Numbers.{masked}
 
-pub is-paper : (t : Topology) → wiringOf t ≡ paper
-unfolding wiringOf
-is-paper Paper = refl
+-- ---- the paper's wiring
 
 -- of the place p of k pairs: the sums of the code fit, and what they give
 pub record Pairs (k p : ℕ) : Type 0 where
@@ -67,3 +62,25 @@ regained k v s r e h l = rw (e, masked 16 65535 refl s k h l) (go (eqb s 1))
     go : (b : Bool) → (cond b k 0 ≤ k) × (v + cond b k 0 ≡ paper .enc k (v, b))
     go true = (omega arith, omega arith)
     go false = (omega arith, omega arith)
+
+-- ---- the neighbour wiring
+
+-- of the place p of k pairs: the rest of its half is its side
+pub record Neighbours (k p : ℕ) : Type 0 where
+  pub across : p + 1 - 2 * (p % 2) ≡ other neighbour k p
+  pub side : p % 2 ≡ digit (neighbour .dec k p .1)
+
+pub neighbours : (k p : ℕ) → Neighbours k p
+neighbours k p = go (decLt (p % 2) 1)
+  where
+    go : Dec (p % 2 < 1) → Neighbours k p
+    go (yes l) = let q = ne-eqb (p % 2) 1 (λ e. omega arith) in record { across = rw q (omega arith); side = rw q (omega arith) }
+    go (no l) = let q = eq-eqb (p % 2) 1 (omega arith) in record { across = rw q (omega arith); side = rw q (omega arith) }
+
+-- doubled, and the bit added
+pub doubled : (k v s : ℕ) → s < 2 → 2 * v + s ≡ neighbour .enc k (v, eqb s 1)
+doubled k v s h = go (decLt s 1)
+  where
+    go : Dec (s < 1) → 2 * v + s ≡ neighbour .enc k (v, eqb s 1)
+    go (yes l) = rw (ne-eqb s 1 (λ e. omega arith)) (omega arith)
+    go (no l) = rw (eq-eqb s 1 (omega arith)) (omega arith)

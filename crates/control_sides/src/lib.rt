@@ -15,6 +15,7 @@ pub fn pair_of(t: wirings::Topology, k: u16, p: u16) -> u16
 {
     match t {
         wirings::Topology::Paper => p - k * control_numbers::at_least(p, k),
+        wirings::Topology::Neighbour => p / 2,
     }
 }
 
@@ -25,6 +26,7 @@ pub fn side_of(t: wirings::Topology, k: u16, p: u16) -> u16
 {
     match t {
         wirings::Topology::Paper => control_numbers::at_least(p, k),
+        wirings::Topology::Neighbour => p % 2,
     }
 }
 
@@ -35,6 +37,7 @@ pub fn other_of(t: wirings::Topology, k: u16, p: u16) -> u16
 {
     match t {
         wirings::Topology::Paper => p + k - 2 * k * control_numbers::at_least(p, k),
+        wirings::Topology::Neighbour => p + 1 - 2 * (p % 2),
     }
 }
 
@@ -45,6 +48,7 @@ pub fn first_of(t: wirings::Topology, k: u16, i: u16) -> u16
 {
     match t {
         wirings::Topology::Paper => i,
+        wirings::Topology::Neighbour => 2 * i,
     }
 }
 
@@ -55,5 +59,6 @@ pub fn value_of(t: wirings::Topology, k: u16, v: u16, s: u16) -> u16
 {
     match t {
         wirings::Topology::Paper => v + (k & control_numbers::mask(s)),
+        wirings::Topology::Neighbour => 2 * v + s,
     }
 }

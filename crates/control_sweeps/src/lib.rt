@@ -60,8 +60,8 @@ fn act_by(
     }
 }
 
-// The switches of the network's first n pairs act. Neighbours are told apart from others, here and below, only so that the loop is
-// compiled anew for them: it then takes several at a time.
+// The switches of the network's first n pairs act. Places side by side are told apart from others, here and below, only so that the
+// loop is compiled anew for them: it then takes several at a time.
 pub fn act_on(
     vals: &mut [u16],
     trails: &mut [u16],

@@ -1,6 +1,7 @@
 pub mod Cases
 pub mod Shape
 pub mod Paper
+pub mod Neighbour
 pub mod Blocks
 pub mod Places
 pub mod Layer
@@ -8,6 +9,7 @@ pub mod Where
 pub mod Undo
 pub mod Order
 pub mod Moved
+pub mod Alike
 pub mod Run
 pub mod RunBack
 pub mod Kept

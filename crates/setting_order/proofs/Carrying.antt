@@ -10,16 +10,17 @@ use Rattle.answers.specs.declared.Answer.{Answer}
 use Rattle.answers.specs.Outcomes.{Logged, logged}
 use Rattle.bits.specs.Bits.{Bits}
 use Rattle.counts.specs.Counts.{W}
-use Rattle.network.specs.Wiring.{paper}
 use Rattle.network.specs.Blocks.{cut, movedBack, orderOf}
 use Rattle.network.specs.Log.{entryWords}
-use Rattle.network.proofs.Paper.{paper-lawful}
 use Rattle.network.proofs.Blocks.{length-cut, getD-cut}
 use Rattle.network.proofs.Moved.{cut-movedBack, length-movedBack}
 use Rattle.network.proofs.Order.{length-order, order-below, order-backward}
 use Rattle.permutation.specs.Permutations.{tabulate}
 use Rattle.permutation.proofs.Tables.{is-tabulate}
-use Rattle.apply.specs.Calls.{inverseCall}
+use Rattle.wirings.specs.declared.Topology.{Topology}
+use Rattle.wirings.specs.Nets.{wiringOf}
+use Rattle.wirings.proofs.Halves.{lawful}
+use Rattle.apply.specs.Calls.{inverseCallIn}
 use Rattle.apply_questions.proofs.Asked.{Fits}
 use Rattle.apply.proofs.Outcome.{inverse-accepted}
 use Rattle.setting_order.specs.Inner.{numberIn, Numbered}
@@ -32,23 +33,23 @@ first-numbered n blocks N =
       high = λ i h. getD-take (n * 2) blocks (2 * i + 1) 0 (omega arith) ∙ N .high i h;
     }
 
-module _ (n : ℕ) (bits blocks : List ℕ) (long : length blocks ≡ n * 2) (N : Numbered n blocks) where
+module _ (t : Topology) (n : ℕ) (bits blocks : List ℕ) (long : length blocks ≡ n * 2) (N : Numbered n blocks) where
   abbrev after : List ℕ
-  after = movedBack paper n 2 bits blocks
+  after = movedBack (wiringOf t) n 2 bits blocks
 
   -- byte t of block i comes from the block that the order names
   module _ (i : ℕ) (h : i < n) where
     abbrev place : ℕ
-    place = getD (orderOf paper n bits) i 0
+    place = getD (orderOf (wiringOf t) n bits) i 0
 
     below : place < n
-    below = order-below paper-lawful n bits i h
+    below = order-below (lawful t) n bits i h
 
     block : take 2 (drop (i * 2) after) ≡ take 2 (drop (place * 2) blocks)
     block =
         sym (getD-cut 2 n after i h)
-        ∙ ap (λ bs. getD bs i []) (cut-movedBack paper-lawful n 2 bits blocks long)
-        ∙ order-backward paper-lawful n bits [] (cut 2 n blocks) (length-cut 2 n blocks) i h
+        ∙ ap (λ bs. getD bs i []) (cut-movedBack (lawful t) n 2 bits blocks long)
+        ∙ order-backward (lawful t) n bits [] (cut 2 n blocks) (length-cut 2 n blocks) i h
         ∙ getD-cut 2 n blocks place below
 
     byte : (t : ℕ) → t < 2 → getD after (i * 2 + t) 0 ≡ getD blocks (place * 2 + t) 0
@@ -69,14 +70,14 @@ module _ (n : ℕ) (bits blocks : List ℕ) (long : length blocks ≡ n * 2) (N 
         omega (arith, low, high)
 
   -- with whatever stands behind the blocks
-  order-in : (rest : List ℕ) → tabulate (numberIn (after ++ rest)) n ≡ orderOf paper n bits
+  order-in : (rest : List ℕ) → tabulate (numberIn (after ++ rest)) n ≡ orderOf (wiringOf t) n bits
   order-in rest =
       sym
-      (is-tabulate (numberIn (after ++ rest)) n (orderOf paper n bits) (length-order paper-lawful n bits)
+      (is-tabulate (numberIn (after ++ rest)) n (orderOf (wiringOf t) n bits) (length-order (lawful t) n bits)
       (λ i h. sym (names i h) ∙ sym (whole i h)))
     where
       room : (i : ℕ) → i < n → 2 * i + 1 < length after
-      room i h = omega (arith, length-movedBack paper-lawful n 2 bits blocks long)
+      room i h = omega (arith, length-movedBack (lawful t) n 2 bits blocks long)
 
       whole : (i : ℕ) → i < n → numberIn (after ++ rest) i ≡ numberIn after i
       whole i h =
@@ -85,13 +86,13 @@ module _ (n : ℕ) (bits blocks : List ℕ) (long : length blocks ≡ n * 2) (N 
           omega (arith, low, high)
 
 -- no question of the return gets a no
-returned : (n : ℕ) (bits blocks log : List ℕ) {a : Answer} {after log′ : List ℕ} → n ≤ 1024 → W n ≤ 9217 → length bits ≡ W n → Bits bits
-    → length blocks ≡ n * 2 → length log ≡ entryWords * 9217 → logged a after log′ ≡ inverseCall n 2 blocks bits log
-    → after ≡ movedBack paper n 2 bits blocks
-returned n bits blocks log few small count areBits long room e =
+returned : (t : Topology) (n : ℕ) (bits blocks log : List ℕ) {a : Answer} {after log′ : List ℕ} → n ≤ 1024 → W n ≤ 9217 → length bits ≡ W n → Bits bits
+    → length blocks ≡ n * 2 → length log ≡ entryWords * 9217 → logged a after log′ ≡ inverseCallIn (wiringOf t) n 2 blocks bits log
+    → after ≡ movedBack (wiringOf t) n 2 bits blocks
+returned t n bits blocks log few small count areBits long room e =
     let f : Fits n 2 (length blocks) bits (length log) =
     record { places = few; low = omega arith; high = omega arith; whole = long; count = count; words = omega arith; settings = areBits } in
-    ap (λ (o : Logged). o .buffer) (e ∙ inverse-accepted n 2 blocks bits log f)
+    ap (λ (o : Logged). o .buffer) (e ∙ inverse-accepted (lawful t) n 2 blocks bits log f)
 
 -- ---- the whole array, of which the blocks are the front
 
@@ -103,15 +104,15 @@ module _ (n : ℕ) (array : List ℕ) (few : n ≤ 1024) (room : length array �
   array-kept front e = rw (length-append, length-drop) (omega (arith, front-long))
 
   pub carried-in :
-      (bits log : List ℕ) {a : Answer} {front log′ : List ℕ}
+      (t : Topology) (bits log : List ℕ) {a : Answer} {front log′ : List ℕ}
       → W n ≤ 9217
       → length bits ≡ W n
       → Bits bits
       → Numbered n array
       → length log ≡ entryWords * 9217
-      → logged a front log′ ≡ inverseCall n 2 (take (n * 2) array) bits log
-      → tabulate (numberIn (front ++ drop (n * 2) array)) n ≡ orderOf paper n bits
-  carried-in bits log small count areBits N words e =
+      → logged a front log′ ≡ inverseCallIn (wiringOf t) n 2 (take (n * 2) array) bits log
+      → tabulate (numberIn (front ++ drop (n * 2) array)) n ≡ orderOf (wiringOf t) n bits
+  carried-in t bits log small count areBits N words e =
       let blocks = take (n * 2) array in
-      ap (λ x. tabulate (numberIn (x ++ drop (n * 2) array)) n) (returned n bits blocks log few small count areBits front-long words e)
-      ∙ order-in n bits blocks front-long (first-numbered n array N) (drop (n * 2) array)
+      ap (λ x. tabulate (numberIn (x ++ drop (n * 2) array)) n) (returned t n bits blocks log few small count areBits front-long words e)
+      ∙ order-in t n bits blocks front-long (first-numbered n array N) (drop (n * 2) array)

@@ -1,2 +1,3 @@
 pub mod Numbering
 pub mod Carrying
+pub mod Front

@@ -3,21 +3,23 @@
 use mathlib.Core.Path.{_≡_, refl, sym, ap, subst, _∙_, fun-ext}
 use mathlib.Core.Bool.{Bool, true, false, cond}
 use Prim.Native.Nat.{ℕ, _+_, _-_, _*_, _≤_, _<_}
-use native.Mathlib.Nat.{add-mul, add-assoc, mul-le-mul, mul-le-mul-right, one-mul, le-refl}
+use native.Mathlib.Nat.{add-mul, add-assoc, mul-assoc, mul-le-mul, mul-le-mul-right, one-mul, le-refl}
 use native.Mathlib.Omega.{arith}
 use Rattle.counts.specs.Counts.{up}
 use Rattle.network.specs.Wiring.{Lawful, Side}
 use Rattle.network.specs.Network.{down}
 use Rattle.network.proofs.Paper.{paper-lawful}
+use Rattle.network.proofs.Neighbour.{neighbour-lawful}
 use Rattle.network.proofs.Places.{Lies, lies-top, lies-both, lies-below}
 use Rattle.wirings.specs.declared.Topology.{Topology}
-use Rattle.wirings.specs.declared.Topology.the-variants.{Paper}
+use Rattle.wirings.specs.declared.Topology.the-variants.{Paper, Neighbour}
 use Rattle.wirings.specs.declared.Net.{Net}
 use Rattle.wirings.specs.Nets.{wiringOf, stepOf, gapOf, netOf, placeOf, sideOf, Inside, Spaced, stepped, IsHalf}
 
 pub lawful : (t : Topology) → Lawful (wiringOf t)
 unfolding wiringOf
 lawful Paper = paper-lawful
+lawful Neighbour = neighbour-lawful
 
 -- a network by its own numbers
 pub net-as : (net : Net) (x : ℕ) → net .apart ≡ x → net ≡ netOf (net .topology) (net .start) (net .size) x
@@ -46,20 +48,19 @@ rises net far i j l =
 
 -- ---- the arithmetic of places, for each wiring
 
-pub step-is : (t : Topology) (apart : ℕ) → stepOf t apart ≡ apart
-unfolding stepOf
-step-is Paper apart = refl
-
-pub gap-is : (t : Topology) (k apart : ℕ) → gapOf t k apart ≡ k * apart
-unfolding gapOf
-gap-is Paper k apart = refl
-
 spaced-by : (t : Topology) (start m apart : ℕ) → 2 ≤ m → 1 ≤ apart → Spaced (netOf t start m apart) (stepOf t apart) (gapOf t (up m) apart)
 unfolding wiringOf stepOf gapOf
 spaced-by Paper start m apart two far =
     let some : 1 ≤ up m = omega arith in
     let near : 1 * 1 ≤ up m * apart = mul-le-mul some far in
     record { lower = λ i. refl; upper = λ i. add-mul (up m) i apart; ahead = far; beside = omega (arith, near) }
+spaced-by Neighbour start m apart two far =
+    record {
+      lower = λ i. omega (arith, mul-assoc i 2 apart);
+      upper = λ i. omega (arith, add-mul (i * 2) 1 apart, mul-assoc i 2 apart, one-mul apart);
+      ahead = omega (arith, far);
+      beside = far;
+    }
 
 pub spaced : (net : Net) → 2 ≤ net .size → 1 ≤ net .apart → Spaced net (stepOf (net .topology) (net .apart))
     (gapOf (net .topology) (up (net .size)) (net .apart))
@@ -68,6 +69,15 @@ spaced net two far = spaced-by (net .topology) (net .start) (net .size) (net .ap
 pub spaced-as : (net : Net) (step gap : ℕ) → 2 ≤ net .size → 1 ≤ net .apart → step ≡ stepOf (net .topology) (net .apart)
     → gap ≡ gapOf (net .topology) (up (net .size)) (net .apart) → Spaced net step gap
 spaced-as net step gap two far e f = rw (e, f) (spaced net two far)
+
+-- a step is at most twice the distance of two places
+step-short : (t : Topology) (apart : ℕ) → stepOf t apart ≤ 2 * apart
+unfolding stepOf
+step-short Paper apart = omega arith
+step-short Neighbour apart = omega arith
+
+pub step-inside : {n : ℕ} {net : Net} → Inside n net → 2 ≤ net .size → stepOf (net .topology) (net .apart) < 2 * n
+step-inside {n} {net} I two = omega (arith, step-short (net .topology) (net .apart), nearer I 1 (omega arith), one-mul (net .apart))
 
 -- a gap leads from a place of the network to another
 pub gap-inside : {n : ℕ} {net : Net} → Inside n net → 2 ≤ net .size → gapOf (net .topology) (up (net .size)) (net .apart) < n

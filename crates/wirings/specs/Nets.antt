@@ -4,21 +4,24 @@ use mathlib.Core.Path.{_≡_}
 use mathlib.Core.Bool.{Bool, true, false, cond}
 use Prim.Native.Nat.{ℕ, _+_, _*_, _≤_, _<_}
 use Rattle.counts.specs.Counts.{up}
-use Rattle.network.specs.Wiring.{Wiring, Side, paper}
+use Rattle.network.specs.Wiring.{Wiring, Side, paper, neighbour}
 use Rattle.network.specs.Network.{down}
 use Rattle.wirings.specs.declared.Topology.{Topology}
-use Rattle.wirings.specs.declared.Topology.the-variants.{Paper}
+use Rattle.wirings.specs.declared.Topology.the-variants.{Paper, Neighbour}
 use Rattle.wirings.specs.declared.Net.{Net}
 
 unfoldable pub wiringOf : Topology → Wiring
 wiringOf Paper = paper
+wiringOf Neighbour = neighbour
 
 -- where places lie `apart`: from a pair to the next, and from a place of k pairs to the pair's other
 unfoldable pub stepOf : Topology → ℕ → ℕ
 stepOf Paper apart = apart
+stepOf Neighbour apart = 2 * apart
 
 unfoldable pub gapOf : Topology → ℕ → ℕ → ℕ
 gapOf Paper k apart = k * apart
+gapOf Neighbour k apart = apart
 
 -- a network by its numbers; all n places
 abbrev pub netOf : Topology → ℕ → ℕ → ℕ → Net

@@ -6,9 +6,10 @@ ghost use mathlib.Core.Bool.{true, false};
 ghost use Prim.Native.Nat.{_≤_, _<_};
 ghost use Rattle.wirings.specs.Nets.{wholeOf, stepOf, gapOf, Inside, Spaced, IsHalf};
 
-// The wirings (01: the paper's).
+// The wirings: the paper's (01), and the neighbour wiring (02, F-6).
 pub enum Topology {
     Paper,
+    Neighbour,
 }
 
 // A network of `size` places that lie `apart` from each other, from the place `start` of the whole on.
@@ -37,13 +38,15 @@ pub fn whole(topology: Topology, n: usize) -> Net
     }
 }
 
-// How far it is from a pair to the next where the places lie `apart`. Here and in the next two alone the wirings differ in where
-// things lie.
+// How far it is from a pair to the next where the places lie `apart`. Here and in the next alone the wirings differ in where things
+// lie.
 pub fn step(topology: Topology, apart: usize) -> usize
+    requires { ⌜ stepOf topology apart < 18446744073709551616 ⌝ }
     ensures { λ r. ⌜ r ≡ stepOf topology apart ⌝ }
 {
     match topology {
         Topology::Paper => apart,
+        Topology::Neighbour => 2 * apart,
     }
 }
 
@@ -54,23 +57,20 @@ pub fn gap(topology: Topology, k: usize, apart: usize) -> usize
 {
     match topology {
         Topology::Paper => k * apart,
+        Topology::Neighbour => apart,
     }
 }
 
-// Both, of a network; worked out here and not by the two above, so that the compiler, which looks at all callers of a function, still
-// knows the distance of the calls that have only numbers.
+// Both, of a network.
 pub fn spacing_of(net: Net) -> Spacing
     requires { ⌜ (2 ≤ net .size) × Inside 1024 net ⌝ }
     ensures { λ r. ⌜ Spaced net (r .step) (r .gap) ⌝ }
 {
     let topology = net.topology;
-    let apart = net.apart;
     let k = (net.size + 1) / 2;
-    match topology {
-        Topology::Paper => Spacing {
-            step: apart,
-            gap: k * apart,
-        },
+    Spacing {
+        step: step(topology, net.apart),
+        gap: gap(topology, k, net.apart),
     }
 }
 

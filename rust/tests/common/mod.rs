@@ -5,6 +5,7 @@
 pub mod plain;
 
 use lomuveran::Refusal;
+use plain::{Neighbour, Paper, Wiring};
 use std::{collections::BTreeSet, fmt::Debug};
 
 /// A count, or the question and the place of the refusal.
@@ -12,6 +13,17 @@ pub type Outcome = Result<usize, (usize, usize)>;
 
 pub fn seen(result: Result<usize, Refusal>) -> Outcome {
     result.map_err(|refusal| (refusal.question, refusal.place))
+}
+
+pub type Set = fn(&[u16], &mut [u8], &mut [u16]) -> Result<usize, Refusal>;
+pub type Move = fn(usize, usize, &mut [u8], &[u8], &mut [u16]) -> Result<usize, Refusal>;
+
+/// The library's set, and its mix and return, in a wiring.
+pub fn calls(wiring: Wiring) -> (Set, [Move; 2]) {
+    match wiring {
+        Paper => (lomuveran::control_bits, [lomuveran::apply, lomuveran::apply_inverse]),
+        Neighbour => (lomuveran::neighbour_control_bits, [lomuveran::neighbour_apply, lomuveran::neighbour_apply_inverse]),
+    }
 }
 
 /// Compares; counts what was compared, and keeps which questions refused (0: none did).

@@ -14,7 +14,7 @@ use Rattle.network.specs.Network.{down}
 use Rattle.network.proofs.RunBack.{below-reverse}
 use Rattle.wirings.specs.declared.Net.{Net}
 use Rattle.wirings.specs.Nets.{netOf, Spaced, IsHalf}
-use Rattle.wirings.proofs.Halves.{fewer, gap-inside, spaced-as, is-top, is-bottom, bottom-starts}
+use Rattle.wirings.proofs.Halves.{fewer, step-inside, gap-inside, spaced-as, is-top, is-bottom, bottom-starts}
 use Rattle.apply_layers.specs.Ran.{bitBack}
 use Rattle.apply_layers.proofs.Network.{Same, W-two, nothing-back, pair-back, returned}
 use Rattle.apply_layers.proofs.Parts.{Room, room-after, fits, front-long, behind-long, front-kept, behind-kept}
@@ -26,6 +26,7 @@ use Rattle.apply_backward.proofs.run_back.Reads as run-back
 use Rattle.apply_backward.proofs.run_back.Kinds as run-back-kinds
 use Rattle.apply_backward.proofs.+run_back.Lts-run_back as run-back-lts
 use Rattle.apply_widths.proofs.layer_back.Reads as layer-back-reads
+use Rattle.apply_widths.proofs.pair_back.Reads as pair-back-reads
 use Rattle.wirings.proofs.gap.Reads as gap-reads
 use Rattle.wirings.proofs.step.Reads as step-reads
 use Rattle.apply_backward.proofs.+run_back.{statement}
@@ -47,6 +48,8 @@ calls t = (
   step-reads.Learnt,
   gap-reads.Asked,
   gap-reads.Learnt,
+  pair-back-reads.Asked,
+  pair-back-reads.Learnt,
   layer-back-reads.Asked,
   layer-back-reads.Learnt,
   run-back-below t,
@@ -66,7 +69,7 @@ module _ (t : ℕ) where
   Q = run-back-lts.Else2 (calls t) (run-back-at t) run-back.Post
 
   abbrev L : Type 0
-  L = run-back-lts.After-layer-back2 (calls t) (run-back-at t) run-back.Post
+  L = run-back-lts.After-layer-back (calls t) (run-back-at t) run-back.Post
 
   abbrev M : Type 0
   M = run-back-lts.After-run-back (calls t) (run-back-at t) run-back.Post
@@ -128,7 +131,7 @@ module _ (t : ℕ) where
   cut q = gap (s-of q) * g-of (s-of q) .args .width
 
   abbrev b1 : L → List ℕ
-  b1 l = l .layer-back2 .last .0
+  b1 l = l .layer-back .last .0
 
   abbrev b2 : M → List ℕ
   b2 m = putMid (cut (q-of (l-of m))) (length (b1 (l-of m)) - cut (q-of (l-of m))) (b1 (l-of m)) (m .run-back .last .0)
@@ -137,13 +140,13 @@ module _ (t : ℕ) where
   b3 n = (n .run-back2 .last .0) ++ drop (end (q-of (l-of (m-of n)))) (b2 (m-of n))
 
   kept1 : (l : L) → (let a = g-of (s-of (q-of l)) .args in Same (a .blocks .now) (a .log .now) (b1 l)
-      (l .layer-back2 .last .1 .1 .1 .1 .1 .1 .1 .0))
-  kept1 l = record { blocks = l .layer-back2 .kept .0; log = l .layer-back2 .kept .1 .1 .1 .1 .1 .1 .1 .0 }
+      (l .layer-back .last .1 .1 .1 .1 .1 .1 .1 .0))
+  kept1 l = record { blocks = l .layer-back .kept .0; log = l .layer-back .kept .1 .1 .1 .1 .1 .1 .1 .0 }
 
   room1 : (l : L) → (let s = s-of (q-of l) in let a = g-of s .args in Room (a .width) (gap s) (b1 l))
   room1 l = room-after (sz (s-of (q-of l)) .bottom) (b1 l) (kept1 l .blocks)
 
-  kept2 : (m : M) → (let l = l-of m in Same (b1 l) (l .layer-back2 .last .1 .1 .1 .1 .1 .1 .1 .0) (b2 m)
+  kept2 : (m : M) → (let l = l-of m in Same (b1 l) (l .layer-back .last .1 .1 .1 .1 .1 .1 .1 .0) (b2 m)
       (m .run-back .last .1 .1 .1 .1 .1 .1 .1 .0))
   kept2 m = record {
     blocks = behind-kept (room1 (l-of m)) (m .run-back .last .0) (m .run-back .kept .0);
@@ -187,15 +190,17 @@ module _ (t : ℕ) where
       omega (arith, fewer (inside-all (p .0) (p .1)) (omega (arith, c .if1 .left)))
 
   run-back-step-requires : run-back-lts.Need-step-requires (calls t) (run-back-at t) run-back.Post
-  run-back-step-requires c κs = search needs
+  run-back-step-requires c κs =
+      let p = c .before .before .before .before .pre .1 in
+      omega (arith, step-inside (inside-all (p .0) (p .1)) (c .if1 .left))
 
   run-back-gap-requires : run-back-lts.Need-gap-requires (calls t) (run-back-at t) run-back.Post
   run-back-gap-requires c κs =
       let p = c .before .before .before .before .before .pre .1 in
       omega (arith, gap-inside (inside-all (p .0) (p .1)) (c .before .if1 .left))
 
-  run-back-layer-back-requires : run-back-lts.Need-layer-back-requires (calls t) (run-back-at t) run-back.Post
-  run-back-layer-back-requires c κs =
+  run-back-pair-back-requires : run-back-lts.Need-pair-back-requires (calls t) (run-back-at t) run-back.Post
+  run-back-pair-back-requires c κs =
       let s = c .before .before .before in
       let p = g-of s .pre .1 in
       let a = g-of s .args in
@@ -209,10 +214,10 @@ module _ (t : ℕ) where
       omega (arith, g .pre .1 .0 .enough, W-two (g .args .m) (l .before .before .before .if2 .taken), g .good .1 .1 .1 .1 .1 .1 .0 .0)
 
   run-back-same-length : run-back-lts.Need-same-length (calls t) (run-back-at t) run-back.Post
-  run-back-same-length c = c .before .before .before .before .layer-back .kept .0
+  run-back-same-length c = c .before .before .before .before .pair-back .kept .0
 
   run-back-same-length-2 : run-back-lts.Need-same-length-2 (calls t) (run-back-at t) run-back.Post
-  run-back-same-length-2 c = c .before .before .before .before .layer-back .kept .1 .1 .1 .1 .1 .1 .1 .0
+  run-back-same-length-2 c = c .before .before .before .before .pair-back .kept .1 .1 .1 .1 .1 .0
 
   run-back-returns-2 : run-back-lts.Need-returns-2 (calls t) (run-back-at t) run-back.Post
   run-back-returns-2 c =
@@ -220,7 +225,7 @@ module _ (t : ℕ) where
       let s = l .before .before .before .before in
       let a = g-of s .args in
       pair-back (sp s) (a .width) (a .o) (a .e) (bitBack (a .bits .now)) (l .before .before .before .if2 .taken)
-      (l .layer-back .ensures)
+      (l .pair-back .ensures)
 
   run-back-sub-h : run-back-lts.Need-sub-h (calls t) (run-back-at t) run-back.Post
   run-back-sub-h c = omega (arith, sz (c .before) .two)
@@ -246,8 +251,8 @@ module _ (t : ℕ) where
       let p = g-of s .pre .1 in
       omega (arith, bottom-starts (net s) (step s) (gap s) (sp s) (inside-all (p .0) (p .1)) (two s))
 
-  run-back-layer-back-requires-2 : run-back-lts.Need-layer-back-requires-2 (calls t) (run-back-at t) run-back.Post
-  run-back-layer-back-requires-2 c κs =
+  run-back-layer-back-requires : run-back-lts.Need-layer-back-requires (calls t) (run-back-at t) run-back.Post
+  run-back-layer-back-requires c κs =
       let q = c .before .before in
       let s = s-of q in
       let p = g-of s .pre .1 in
@@ -304,8 +309,8 @@ module _ (t : ℕ) where
             (front-long (room2 m)) (omega (arith, z .count, far1 m)),
       )
 
-  run-back-layer-back-requires-3 : run-back-lts.Need-layer-back-requires-3 (calls t) (run-back-at t) run-back.Post
-  run-back-layer-back-requires-3 c κs =
+  run-back-layer-back-requires-2 : run-back-lts.Need-layer-back-requires-2 (calls t) (run-back-at t) run-back.Post
+  run-back-layer-back-requires-2 c κs =
       let n = c .before .before .before .before .before .before in
       let q = q-of (l-of (m-of n)) in
       let s = s-of q in
@@ -324,12 +329,12 @@ module _ (t : ℕ) where
   run-back-same-length-3 : run-back-lts.Need-same-length-3 (calls t) (run-back-at t) run-back.Post
   run-back-same-length-3 c =
       let at4 = c .before .before .before .before in
-      let r = at4 in r .layer-back3 .kept .0 ∙ kept (r .before .before .before .before .before .before .before) .blocks
+      let r = at4 in r .layer-back2 .kept .0 ∙ kept (r .before .before .before .before .before .before .before) .blocks
 
   run-back-same-length-4 : run-back-lts.Need-same-length-4 (calls t) (run-back-at t) run-back.Post
   run-back-same-length-4 c =
       let at4 = c .before .before .before .before in
-      let r = at4 in r .layer-back3 .kept .1 .1 .1 .1 .1 .1 .1 .0 ∙ kept (r .before .before .before .before .before .before .before) .log
+      let r = at4 in r .layer-back2 .kept .1 .1 .1 .1 .1 .1 .1 .0 ∙ kept (r .before .before .before .before .before .before .before) .log
 
   run-back-returns-3 : run-back-lts.Need-returns-3 (calls t) (run-back-at t) run-back.Post
   run-back-returns-3 c =
@@ -349,12 +354,12 @@ module _ (t : ℕ) where
       let bit = bitBack (a .bits .now) in (
         omega (arith, z .count, far1 m, far2 n),
         returned S (z .two) T U (a .width) (a .o) bit (omega (arith, z .count, z .room, far1 m, far2 n)) (kept1 l) (kept2 m)
-            (kept3 n) refl (far1 m) (far2 n) (l .layer-back2 .ensures)
+            (kept3 n) refl (far1 m) (far2 n) (l .layer-back .ensures)
             (bottom-ran p I S (z .two) bit U (room1 l) (m .run-back .last .0) (m .run-back .ensures .1))
             (top-ran p I S (z .two) bit T (room2 m) (n .run-back2 .last .0) (n .run-back2 .kept .0)
             (below-reverse (below-all _ (top-inside p I S (z .two) T)))
             (n .run-back2 .ensures .1))
-            (r .layer-back3 .ensures),
+            (r .layer-back2 .ensures),
       )
 
 pub +run-back-spec : {M : Type 1} → statement M
@@ -365,7 +370,7 @@ pub +run-back-spec : {M : Type 1} → statement M
     (run-back-add-k t)
     (run-back-step-requires t)
     (run-back-gap-requires t)
-    (run-back-layer-back-requires t)
+    (run-back-pair-back-requires t)
     (run-back-add-result t)
     (run-back-same-length t)
     (run-back-same-length-2 t)
@@ -377,7 +382,7 @@ pub +run-back-spec : {M : Type 1} → statement M
     (run-back-mul-end-2 t)
     (run-back-mul-cut t)
     (run-back-add-at t)
-    (run-back-layer-back-requires-2 t)
+    (run-back-layer-back-requires t)
     (run-back-sub-run-back t)
     (run-back-part-run-back-start t)
     (run-back-part-run-back-end t)
@@ -386,7 +391,7 @@ pub +run-back-spec : {M : Type 1} → statement M
     (run-back-slice-relend-prefix-run-back t)
     (run-back-slice-aggregate-run-back t)
     (run-back-run-back-requires-2 t)
-    (run-back-layer-back-requires-3 t)
+    (run-back-layer-back-requires-2 t)
     (run-back-add-result-2 t)
     (run-back-same-length-3 t)
     (run-back-same-length-4 t)

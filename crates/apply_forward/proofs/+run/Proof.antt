@@ -13,7 +13,7 @@ use Rattle.counts.specs.Counts.{W, up}
 use Rattle.network.specs.Network.{down}
 use Rattle.wirings.specs.declared.Net.{Net}
 use Rattle.wirings.specs.Nets.{netOf, Spaced, IsHalf}
-use Rattle.wirings.proofs.Halves.{fewer, gap-inside, spaced-as, is-top, is-bottom, bottom-starts}
+use Rattle.wirings.proofs.Halves.{fewer, step-inside, gap-inside, spaced-as, is-top, is-bottom, bottom-starts}
 use Rattle.apply_layers.specs.Ran.{bitAt}
 use Rattle.apply_layers.proofs.Network.{Same, W-two, nothing, pair, applied}
 use Rattle.apply_layers.proofs.Parts.{Room, room-after, fits, front-long, behind-long, front-kept, behind-kept}
@@ -25,6 +25,7 @@ use Rattle.apply_forward.proofs.run.Reads as run
 use Rattle.apply_forward.proofs.run.Kinds as run-kinds
 use Rattle.apply_forward.proofs.+run.Lts-run as run-lts
 use Rattle.apply_widths.proofs.layer.Reads as layer-reads
+use Rattle.apply_widths.proofs.pair.Reads as pair-reads
 use Rattle.wirings.proofs.gap.Reads as gap-reads
 use Rattle.wirings.proofs.step.Reads as step-reads
 use Rattle.apply_forward.proofs.+run.{statement}
@@ -46,6 +47,8 @@ calls t = (
   step-reads.Learnt,
   gap-reads.Asked,
   gap-reads.Learnt,
+  pair-reads.Asked,
+  pair-reads.Learnt,
   layer-reads.Asked,
   layer-reads.Learnt,
   run-below t,
@@ -65,7 +68,7 @@ module _ (t : ℕ) where
   Q = run-lts.Else2 (calls t) (run-at t) run.Post
 
   abbrev L : Type 0
-  L = run-lts.After-layer2 (calls t) (run-at t) run.Post
+  L = run-lts.After-layer (calls t) (run-at t) run.Post
 
   abbrev M : Type 0
   M = run-lts.After-run (calls t) (run-at t) run.Post
@@ -127,7 +130,7 @@ module _ (t : ℕ) where
   cut q = gap (s-of q) * g-of (s-of q) .args .width
 
   abbrev b1 : L → List ℕ
-  b1 l = l .layer2 .last .0
+  b1 l = l .layer .last .0
 
   abbrev b2 : M → List ℕ
   b2 m = (m .run .last .0) ++ drop (end (q-of (l-of m))) (b1 (l-of m))
@@ -136,13 +139,13 @@ module _ (t : ℕ) where
   b3 n = putMid (cut (q-of (l-of (m-of n)))) (length (b2 (m-of n)) - cut (q-of (l-of (m-of n)))) (b2 (m-of n)) (n .run2 .last .0)
 
   kept1 : (l : L) → (let a = g-of (s-of (q-of l)) .args in Same (a .blocks .now) (a .log .now) (b1 l)
-      (l .layer2 .last .1 .1 .1 .1 .1 .1 .1 .0))
-  kept1 l = record { blocks = l .layer2 .kept .0; log = l .layer2 .kept .1 .1 .1 .1 .1 .1 .1 .0 }
+      (l .layer .last .1 .1 .1 .1 .1 .1 .1 .0))
+  kept1 l = record { blocks = l .layer .kept .0; log = l .layer .kept .1 .1 .1 .1 .1 .1 .1 .0 }
 
   room1 : (l : L) → (let s = s-of (q-of l) in let a = g-of s .args in Room (a .width) (span (a .m) (step s)) (b1 l))
   room1 l = room-after (sz (s-of (q-of l)) .top) (b1 l) (kept1 l .blocks)
 
-  kept2 : (m : M) → (let l = l-of m in Same (b1 l) (l .layer2 .last .1 .1 .1 .1 .1 .1 .1 .0) (b2 m) (m .run .last .1 .1 .1 .1 .1 .1 .1 .0))
+  kept2 : (m : M) → (let l = l-of m in Same (b1 l) (l .layer .last .1 .1 .1 .1 .1 .1 .1 .0) (b2 m) (m .run .last .1 .1 .1 .1 .1 .1 .1 .0))
   kept2 m = record { blocks = front-kept (room1 (l-of m)) (m .run .last .0) (m .run .kept .0); log = m .run .kept .1 .1 .1 .1 .1 .1 .1 .0 }
 
   room2 : (m : M) → (let s = s-of (q-of (l-of m)) in let a = g-of s .args in Room (a .width) (gap s) (b2 m))
@@ -180,15 +183,17 @@ module _ (t : ℕ) where
       omega (arith, fewer (inside-all (p .0) (p .1)) (omega (arith, c .if1 .left)))
 
   run-step-requires : run-lts.Need-step-requires (calls t) (run-at t) run.Post
-  run-step-requires c κs = search needs
+  run-step-requires c κs =
+      let p = c .before .before .before .before .pre .1 in
+      omega (arith, step-inside (inside-all (p .0) (p .1)) (c .if1 .left))
 
   run-gap-requires : run-lts.Need-gap-requires (calls t) (run-at t) run.Post
   run-gap-requires c κs =
       let p = c .before .before .before .before .before .pre .1 in
       omega (arith, gap-inside (inside-all (p .0) (p .1)) (c .before .if1 .left))
 
-  run-layer-requires : run-lts.Need-layer-requires (calls t) (run-at t) run.Post
-  run-layer-requires c κs =
+  run-pair-requires : run-lts.Need-pair-requires (calls t) (run-at t) run.Post
+  run-pair-requires c κs =
       let s = c .before .before .before in
       let p = g-of s .pre .1 in
       let a = g-of s .args in
@@ -202,10 +207,10 @@ module _ (t : ℕ) where
       omega (arith, g .pre .1 .0 .enough, W-two (g .args .m) (l .before .before .before .if2 .taken), g .good .1 .1 .1 .1 .1 .1 .0 .0)
 
   run-same-length : run-lts.Need-same-length (calls t) (run-at t) run.Post
-  run-same-length c = c .before .before .before .before .layer .kept .0
+  run-same-length c = c .before .before .before .before .pair .kept .0
 
   run-same-length-2 : run-lts.Need-same-length-2 (calls t) (run-at t) run.Post
-  run-same-length-2 c = c .before .before .before .before .layer .kept .1 .1 .1 .1 .1 .1 .1 .0
+  run-same-length-2 c = c .before .before .before .before .pair .kept .1 .1 .1 .1 .1 .0
 
   run-returns-2 : run-lts.Need-returns-2 (calls t) (run-at t) run.Post
   run-returns-2 c =
@@ -213,7 +218,7 @@ module _ (t : ℕ) where
       let s = l .before .before .before .before in
       let a = g-of s .args in
       pair (sp s) (a .width) (a .o) (a .e) (bitAt (a .bits .now)) (l .before .before .before .if2 .taken)
-      (l .layer .ensures)
+      (l .pair .ensures)
 
   run-sub-h : run-lts.Need-sub-h (calls t) (run-at t) run.Post
   run-sub-h c = omega (arith, sz (c .before) .two)
@@ -242,8 +247,8 @@ module _ (t : ℕ) where
   run-add-next : run-lts.Need-add-next (calls t) (run-at t) run.Post
   run-add-next c = let z = sz (c .before) in omega (arith, z .count, z .enough, z .short)
 
-  run-layer-requires-2 : run-lts.Need-layer-requires-2 (calls t) (run-at t) run.Post
-  run-layer-requires-2 c κs =
+  run-layer-requires : run-lts.Need-layer-requires (calls t) (run-at t) run.Post
+  run-layer-requires c κs =
       let q = c .before .before in
       let s = s-of q in
       let p = g-of s .pre .1 in
@@ -295,8 +300,8 @@ module _ (t : ℕ) where
             (behind-long (room2 m)) (omega (arith, z .count, far1 m)),
       )
 
-  run-layer-requires-3 : run-lts.Need-layer-requires-3 (calls t) (run-at t) run.Post
-  run-layer-requires-3 c κs =
+  run-layer-requires-2 : run-lts.Need-layer-requires-2 (calls t) (run-at t) run.Post
+  run-layer-requires-2 c κs =
       let n = c .before .before .before .before .before .before in
       let q = q-of (l-of (m-of n)) in
       let s = s-of q in
@@ -315,12 +320,12 @@ module _ (t : ℕ) where
   run-same-length-3 : run-lts.Need-same-length-3 (calls t) (run-at t) run.Post
   run-same-length-3 c =
       let at4 = c .before .before .before .before in
-      let r = at4 in r .layer3 .kept .0 ∙ kept (r .before .before .before .before .before .before .before) .blocks
+      let r = at4 in r .layer2 .kept .0 ∙ kept (r .before .before .before .before .before .before .before) .blocks
 
   run-same-length-4 : run-lts.Need-same-length-4 (calls t) (run-at t) run.Post
   run-same-length-4 c =
       let at4 = c .before .before .before .before in
-      let r = at4 in r .layer3 .kept .1 .1 .1 .1 .1 .1 .1 .0 ∙ kept (r .before .before .before .before .before .before .before) .log
+      let r = at4 in r .layer2 .kept .1 .1 .1 .1 .1 .1 .1 .0 ∙ kept (r .before .before .before .before .before .before .before) .log
 
   run-returns-3 : run-lts.Need-returns-3 (calls t) (run-at t) run.Post
   run-returns-3 c =
@@ -340,11 +345,11 @@ module _ (t : ℕ) where
       let bit = bitAt (a .bits .now) in (
         omega (arith, z .count, far1 m, far2 n),
         applied S (z .two) T U (a .width) (a .o) bit (omega (arith, z .count, z .room, far1 m, far2 n)) (kept1 l) (kept2 m)
-            (kept3 n) refl (far1 m) (far2 n) (l .layer2 .ensures)
+            (kept3 n) refl (far1 m) (far2 n) (l .layer .ensures)
             (top-ran p I S (z .two) bit T (room1 l) (m .run .last .0) (m .run .kept .0) (below-all _ (top-inside p I S (z .two) T))
             (m .run .ensures .1))
             (bottom-ran p I S (z .two) bit U (room2 m) (n .run2 .last .0) (n .run2 .ensures .1))
-            (r .layer3 .ensures),
+            (r .layer2 .ensures),
       )
 
 pub +run-spec : {M : Type 1} → statement M
@@ -355,7 +360,7 @@ pub +run-spec : {M : Type 1} → statement M
     (run-add-k t)
     (run-step-requires t)
     (run-gap-requires t)
-    (run-layer-requires t)
+    (run-pair-requires t)
     (run-add-result t)
     (run-same-length t)
     (run-same-length-2 t)
@@ -368,7 +373,7 @@ pub +run-spec : {M : Type 1} → statement M
     (run-mul-cut t)
     (run-add-at t)
     (run-add-next t)
-    (run-layer-requires-2 t)
+    (run-layer-requires t)
     (run-slice-relend-prefix-run t)
     (run-slice-aggregate-run t)
     (run-run-requires t)
@@ -376,7 +381,7 @@ pub +run-spec : {M : Type 1} → statement M
     (run-part-run-start t)
     (run-part-run-end t)
     (run-run-requires-2 t)
-    (run-layer-requires-3 t)
+    (run-layer-requires-2 t)
     (run-add-result-2 t)
     (run-same-length-3 t)
     (run-same-length-4 t)

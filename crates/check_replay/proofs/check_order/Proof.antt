@@ -1,8 +1,8 @@
 -- `check_replay::check_order` meets its contract.
 -- Assumes nothing.
+use borrow.Author.Needs.{needs}
 use mathlib.Core.Path.{sym}
 use lib.Seq.{length-take-le}
-use borrow.Author.Needs.{needs}
 use Rattle.check_replay.proofs.check_order.Statement.{statement}
 use Rattle.check_replay.proofs.check_order.Tie as tie
 
@@ -27,23 +27,26 @@ tallied-requires c κs = search needs
 returns : tie.Need-returns
 returns c = search needs
 
+topology-requires : tie.Need-topology-requires
+topology-requires c κs = search needs
+
 array-share-prefix-order : tie.Need-array-share-prefix-order
 array-share-prefix-order c = search needs
 
-slice-aggregate-control-bits : tie.Need-slice-aggregate-control-bits
-slice-aggregate-control-bits c = sym (length-take-le _ _ (search needs))
+slice-aggregate-control-bits-in : tie.Need-slice-aggregate-control-bits-in
+slice-aggregate-control-bits-in c = sym (length-take-le _ _ (search needs))
 
 array-borrow-prefix-bits : tie.Need-array-borrow-prefix-bits
 array-borrow-prefix-bits c = search needs
 
-slice-aggregate-control-bits-2 : tie.Need-slice-aggregate-control-bits-2
-slice-aggregate-control-bits-2 c = sym (length-take-le _ _ (search needs))
+slice-aggregate-control-bits-in-2 : tie.Need-slice-aggregate-control-bits-in-2
+slice-aggregate-control-bits-in-2 c = sym (length-take-le _ _ (search needs))
 
-slice-aggregate-control-bits-3 : tie.Need-slice-aggregate-control-bits-3
-slice-aggregate-control-bits-3 c = search needs
+slice-aggregate-control-bits-in-3 : tie.Need-slice-aggregate-control-bits-in-3
+slice-aggregate-control-bits-in-3 c = search needs
 
-control-bits-requires : tie.Need-control-bits-requires
-control-bits-requires c κs = search needs
+control-bits-in-requires : tie.Need-control-bits-in-requires
+control-bits-in-requires c κs = search needs
 
 run-requires : tie.Need-run-requires
 run-requires c κs = search needs
@@ -71,12 +74,13 @@ check-order-spec =
     switches-requires
     tallied-requires
     returns
+    topology-requires
     array-share-prefix-order
-    slice-aggregate-control-bits
+    slice-aggregate-control-bits-in
     array-borrow-prefix-bits
-    slice-aggregate-control-bits-2
-    slice-aggregate-control-bits-3
-    control-bits-requires
+    slice-aggregate-control-bits-in-2
+    slice-aggregate-control-bits-in-3
+    control-bits-in-requires
     run-requires
     tallied-requires-2
     alike-requires

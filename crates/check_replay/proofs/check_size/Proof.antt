@@ -6,10 +6,10 @@ use Rattle.check_replay.proofs.check_size.Statement.{statement}
 use Rattle.check_replay.proofs.check_size.Tie as tie
 
 abbrev Inv-loop : tie.InvT-loop
-Inv-loop n count t₀ c₀ t c = (c ≤ count) × (n ≤ 1024)
+Inv-loop paper n count t₀ c₀ t c = c ≤ count
 
 abbrev μ-loop : tie.MeasureT-loop
-μ-loop n count t₀ c₀ t c = count - c
+μ-loop paper n count t₀ c₀ t c = count - c
 
 loop-holds : tie.Need-loop-holds Inv-loop μ-loop
 loop-holds c = search needs

@@ -6,10 +6,10 @@ use Rattle.check_replay.proofs.sizes.Statement.{statement}
 use Rattle.check_replay.proofs.sizes.Tie as tie
 
 abbrev Inv-loop : tie.InvT-loop
-Inv-loop to count t₀ n₀ t n = (n ≤ to) × (to ≤ 1025)
+Inv-loop paper to count t₀ n₀ t n = n ≤ to
 
 abbrev μ-loop : tie.MeasureT-loop
-μ-loop to count t₀ n₀ t n = to - n
+μ-loop paper to count t₀ n₀ t n = to - n
 
 none-requires : tie.Need-none-requires Inv-loop μ-loop
 none-requires c κs = search needs

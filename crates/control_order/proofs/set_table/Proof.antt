@@ -31,13 +31,13 @@ set-network-requires c κs =
     let o = a .order .now in
     let bs : b .last .0 ≡ replicate {A = ℕ} (W (length o)) 0 = b .ensures ∙ cleared (a .bits .now) (W (length o)) (s .pre .5) in
     rw (c .before .whole .ensures) (
-      room-start o (v .last .0) (a .trails .now) (a .pairs .now) (b .last .0) (a .log .now) (s .pre .0) (v .kept .0 ∙ s .pre .2) (s .pre .3)
+      room-start (a .t) o (v .last .0) (a .trails .now) (a .pairs .now) (b .last .0) (a .log .now) (s .pre .0) (v .kept .0 ∙ s .pre .2) (s .pre .3)
           (s .pre .4) (b .kept .0 ∙ s .pre .5) (omega (arith, b .kept .0, s .pre .6)) (s .pre .7),
       tidy-is (sym (start-is o (v .last .0) (a .trails .now) (b .last .0) (v .ensures) (s .pre .3) bs)) (tidy-start o),
-      ordered-start o (v .last .0) (a .trails .now) (b .last .0) (s .pre .0) (s .pre .1) (v .ensures)
+      ordered-start (a .t) o (v .last .0) (a .trails .now) (b .last .0) (s .pre .0) (s .pre .1) (v .ensures)
           (ap length (s .pre .3) ∙ length-replicate {A = ℕ} (length o) 0)
           (b .kept .0 ∙ s .pre .5),
-      rw (s .pre .3) (zeros-lengthen (length o) (s .pre .0)),
+      rw (s .pre .3) (zeros-lengthen (a .t) (length o) (s .pre .0)),
     )
 
 same-length : tie.Need-same-length
@@ -70,7 +70,7 @@ returns c =
     let b = at20 .clear in
     let x = c .before .before .before .before .before .before .before .before .before .before .set-network in
     let net = c .before .before .before .before .before .before .before .before .before .before .before .before .whole .ensures in
-    sets-whole (a .order .now) (v .last .0) (a .trails .now) (b .last .0) (a .bits .now) (a .log .now) _ _ _ _ (x .result)
+    sets-whole (a .t) (a .order .now) (v .last .0) (a .trails .now) (b .last .0) (a .bits .now) (a .log .now) _ _ _ _ (x .result)
     (v .ensures) (s .pre .3) (b .ensures) (s .pre .5) (rw net at (x .ensures .0)) (rw net at (x .ensures .1))
 
 pub set-table-spec : {M : Type 1} → statement M

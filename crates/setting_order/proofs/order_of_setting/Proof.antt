@@ -1,73 +1,16 @@
--- `setting_order::order_of_setting` meets its contract.
+-- The paper's case.
 -- Assumes nothing.
-use mathlib.Core.Path.{sym, ap, _∙_}
-use Prim.Native.Nat.{_*_}
-use native.Mathlib.Omega.{arith}
-use lib.ListN.{replicate}
-use lib.Seq.{length-take-le}
-use Rattle.answers.specs.Buffers.{overlay}
-use Rattle.network.specs.Log.{entryWords}
 use borrow.Author.Needs.{needs}
-use Rattle.setting_order.proofs.Carrying.{array-kept, carried-in}
+use Rattle.wirings.specs.Nets.{wiringOf}
 use Rattle.setting_order.proofs.order_of_setting.Statement.{statement}
 use Rattle.setting_order.proofs.order_of_setting.Tie as tie
 
-slice-aggregate-number : tie.Need-slice-aggregate-number
-slice-aggregate-number c = search needs
-
-number-requires : tie.Need-number-requires
-number-requires c κs = search needs
-
-mul-end : tie.Need-mul-end
-mul-end c = search needs
-
-array-borrow-prefix-blocks : tie.Need-array-borrow-prefix-blocks
-array-borrow-prefix-blocks c = omega (arith, c .before .number .kept, c .before .before .before .before .pre .0)
-
-slice-aggregate-apply-inverse : tie.Need-slice-aggregate-apply-inverse
-slice-aggregate-apply-inverse c = sym (length-take-le _ _ (omega (arith, c .before .before .number .kept, c .before .before .before .before .before .pre .0)))
-
-slice-aggregate-apply-inverse-2 : tie.Need-slice-aggregate-apply-inverse-2
-slice-aggregate-apply-inverse-2 c = search needs
-
-apply-inverse-requires : tie.Need-apply-inverse-requires
-apply-inverse-requires c κs = search needs
-
-slice-aggregate-gather : tie.Need-slice-aggregate-gather
-slice-aggregate-gather c =
-    let b7 = c .before .before .before .before .before .before .before in
-    let b10 = b7 .before .before .before in
-    sym (array-kept (b10 .args .n) (b7 .number .last .1 .0) (b10 .pre .0) (b7 .number .kept .1 .0) (c .before .before .before .apply-inverse .last .1 .1 .0) (c .before .before .before .apply-inverse .kept .1 .1 .0))
-
-gather-requires : tie.Need-gather-requires
-gather-requires c κs =
-    let b4 = c .before .before .before .before in
-    let b8 = b4 .before .before .before .before in
-    let b11 = b8 .before .before .before in
-    (omega (arith, b11 .pre .0, array-kept (b11 .args .n) (b8 .number .last .1 .0) (b11 .pre .0) (b8 .number .kept .1 .0) (b4 .apply-inverse .last .1 .1 .0) (b4 .apply-inverse .kept .1 .1 .0)), omega (arith, b11 .pre .0))
+order-of-setting-in-requires : tie.Need-order-of-setting-in-requires
+order-of-setting-in-requires c κs = search needs
 
 returns : tie.Need-returns
-returns c =
-    let b5 = c .before .before .before .before .before in
-    let b9 = b5 .before .before .before .before in
-    let b12 = b9 .before .before .before in
-    let s = b12 in
-    c .gather .ensures
-    ∙ ap (overlay (s .args .order .now) 0)
-    (carried-in (s .args .n) (b9 .number .last .1 .0) (s .pre .0) (b9 .number .kept .1 .0) (s .args .bits .now) (replicate (entryWords * 9217) 0) (s .pre .1) (s .pre .2) (s .pre .3)
-    (b9 .number .ensures) (search needs) (b5 .apply-inverse .ensures))
+unfolding wiringOf
+returns c = c .order-of-setting-in .ensures
 
 pub order-of-setting-spec : {M : Type 1} → statement M
-order-of-setting-spec =
-    tie.close
-    (tie.spec
-    slice-aggregate-number
-    number-requires
-    mul-end
-    array-borrow-prefix-blocks
-    slice-aggregate-apply-inverse
-    slice-aggregate-apply-inverse-2
-    apply-inverse-requires
-    slice-aggregate-gather
-    gather-requires
-    returns)
+order-of-setting-spec = tie.close (tie.spec order-of-setting-in-requires returns)

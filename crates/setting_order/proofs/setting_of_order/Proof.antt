@@ -1,35 +1,21 @@
--- `setting_order::setting_of_order` meets its contract: the local log has room for the most entries.
+-- The paper's case.
 -- Assumes nothing.
-use Prim.Native.Nat.{ℕ, _*_}
-use native.Mathlib.Omega.{arith}
-use lib.ListN.{length, length-replicate}
 use borrow.Author.Needs.{needs}
-use Rattle.network.specs.Log.{entryWords}
-use Rattle.counts.proofs.Most.{switches-few, entries-few}
+use Rattle.wirings.specs.Nets.{wiringOf}
 use Rattle.permutation.proofs.Permutations.{passes-permutation}
 use Rattle.setting_order.proofs.setting_of_order.Statement.{statement}
 use Rattle.setting_order.proofs.setting_of_order.Tie as tie
 
-slice-aggregate-set-order : tie.Need-slice-aggregate-set-order
-slice-aggregate-set-order c = search needs
-
-set-order-requires : tie.Need-set-order-requires
-set-order-requires c κs =
-    let s = c .before .before .before .before in
-    let n = length (s .args .order .now) in (
-      s .pre .0,
-      passes-permutation (s .args .order .now) (s .pre .1),
-      s .pre .2,
-      omega (arith, s .pre .2, switches-few n (s .pre .0)),
-      omega (arith, entries-few n (s .pre .0), length-replicate {A = ℕ} (entryWords * 16381) 0),
-    )
+setting-of-order-in-requires : tie.Need-setting-of-order-in-requires
+setting-of-order-in-requires c κs =
+    let s = c .before .before .before in (s .pre .0, passes-permutation (s .args .order .now) (s .pre .1), s .pre .2)
 
 same-length : tie.Need-same-length
 same-length c = search needs
 
 returns : tie.Need-returns
-returns c = search needs
+unfolding wiringOf
+returns c = c .before .before .setting-of-order-in .ensures
 
 pub setting-of-order-spec : {M : Type 1} → statement M
-setting-of-order-spec =
-    tie.close (tie.spec slice-aggregate-set-order set-order-requires same-length returns)
+setting-of-order-spec = tie.close (tie.spec setting-of-order-in-requires same-length returns)

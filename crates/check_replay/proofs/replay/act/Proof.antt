@@ -6,10 +6,10 @@ use Rattle.check_replay.proofs.replay.act.Statement.{statement}
 use Rattle.check_replay.proofs.replay.act.Tie as tie
 
 abbrev Inv-loop : tie.InvT-loop
-Inv-loop table₀ o k c bits first i₀ table i = i ≤ c
+Inv-loop table₀ net c bits first i₀ table i = i ≤ c
 
 abbrev μ-loop : tie.MeasureT-loop
-μ-loop table₀ o k c bits first i₀ table i = c - i
+μ-loop table₀ net c bits first i₀ table i = c - i
 
 loop-holds : tie.Need-loop-holds Inv-loop μ-loop
 loop-holds c = search needs

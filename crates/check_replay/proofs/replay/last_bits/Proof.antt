@@ -6,13 +6,19 @@ use Rattle.check_replay.proofs.replay.last_bits.Statement.{statement}
 use Rattle.check_replay.proofs.replay.last_bits.Tie as tie
 
 abbrev Inv-loop : tie.InvT-loop
-Inv-loop table bits₀ o h first i₀ bits i = i ≤ h
+Inv-loop table bits₀ net h first k i₀ bits i = i ≤ h
 
 abbrev μ-loop : tie.MeasureT-loop
-μ-loop table bits₀ o h first i₀ bits i = h - i
+μ-loop table bits₀ net h first k i₀ bits i = h - i
+
+up-requires : tie.Need-up-requires Inv-loop μ-loop
+up-requires c κs = search needs
 
 loop-holds : tie.Need-loop-holds Inv-loop μ-loop
 loop-holds c = search needs
+
+one-of-requires : tie.Need-one-of-requires Inv-loop μ-loop
+one-of-requires c κs = search needs
 
 add-requires : tie.Need-add-requires Inv-loop μ-loop
 add-requires c κs = search needs
@@ -41,7 +47,9 @@ last-bits-spec =
     (tie.spec
     Inv-loop
     μ-loop
+    up-requires
     loop-holds
+    one-of-requires
     add-requires
     at-requires
     put-bit-requires

@@ -6,10 +6,10 @@ use Rattle.check_replay.proofs.replay.place_of.Statement.{statement}
 use Rattle.check_replay.proofs.replay.place_of.Tie as tie
 
 abbrev Inv-loop : tie.InvT-loop
-Inv-loop table o m v p₀ p = p ≤ m
+Inv-loop table net v m p₀ p = p ≤ m
 
 abbrev μ-loop : tie.MeasureT-loop
-μ-loop table o m v p₀ p = m - p
+μ-loop table net v m p₀ p = m - p
 
 loop-holds : tie.Need-loop-holds Inv-loop μ-loop
 loop-holds c = search needs

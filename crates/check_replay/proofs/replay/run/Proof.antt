@@ -6,10 +6,10 @@ use Rattle.check_replay.proofs.replay.run.Statement.{statement}
 use Rattle.check_replay.proofs.replay.run.Tie as tie
 
 abbrev Inv-loop : tie.InvT-loop
-Inv-loop order log count bits₀ table₀ marks₀ w₀ e₀ bits table marks w e = e ≤ count
+Inv-loop paper n order log count bits₀ table₀ marks₀ w₀ e₀ bits table marks w e = e ≤ count
 
 abbrev μ-loop : tie.MeasureT-loop
-μ-loop order log count bits₀ table₀ marks₀ w₀ e₀ bits table marks w e = count - e
+μ-loop paper n order log count bits₀ table₀ marks₀ w₀ e₀ bits table marks w e = count - e
 
 widened-requires : tie.Need-widened-requires Inv-loop μ-loop
 widened-requires c κs = search needs
@@ -50,6 +50,9 @@ element-copy-out-wide-2 c = search needs
 wide-requires-2 : tie.Need-wide-requires-2 Inv-loop μ-loop
 wide-requires-2 c κs = search needs
 
+find-requires : tie.Need-find-requires Inv-loop μ-loop
+find-requires c κs = search needs
+
 step-requires : tie.Need-step-requires Inv-loop μ-loop
 step-requires c κs = search needs
 
@@ -84,6 +87,7 @@ run-spec =
     mul-wide-2
     element-copy-out-wide-2
     wide-requires-2
+    find-requires
     step-requires
     add-e
     loop-less

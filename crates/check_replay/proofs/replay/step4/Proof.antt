@@ -6,10 +6,10 @@ use Rattle.check_replay.proofs.replay.step4.Statement.{statement}
 use Rattle.check_replay.proofs.replay.step4.Tie as tie
 
 abbrev Inv-loop : tie.InvT-loop
-Inv-loop table marks₀ bits o m first k i₀ marks i = i ≤ k
+Inv-loop table marks₀ bits first k i₀ marks i = i ≤ k
 
 abbrev μ-loop : tie.MeasureT-loop
-μ-loop table marks₀ bits o m first k i₀ marks i = k - i
+μ-loop table marks₀ bits first k i₀ marks i = k - i
 
 up-requires : tie.Need-up-requires Inv-loop μ-loop
 up-requires c κs = search needs
@@ -23,8 +23,8 @@ act-requires c κs = search needs
 loop-holds : tie.Need-loop-holds Inv-loop μ-loop
 loop-holds c = search needs
 
-put-requires : tie.Need-put-requires Inv-loop μ-loop
-put-requires c κs = search needs
+put-mark-requires : tie.Need-put-mark-requires Inv-loop μ-loop
+put-mark-requires c κs = search needs
 
 add-i : tie.Need-add-i Inv-loop μ-loop
 add-i c = search needs
@@ -48,7 +48,7 @@ step4-spec =
     less-requires
     act-requires
     loop-holds
-    put-requires
+    put-mark-requires
     add-i
     loop-less
     loop-again

@@ -6,16 +6,16 @@ use Rattle.check_replay.proofs.replay.step5.Statement.{statement}
 use Rattle.check_replay.proofs.replay.step5.Tie as tie
 
 abbrev Inv-loop : tie.InvT-loop
-Inv-loop table₀ o m k p₀ table p = p ≤ m
+Inv-loop table₀ net m p₀ table p = p ≤ m
 
 abbrev μ-loop : tie.MeasureT-loop
-μ-loop table₀ o m k p₀ table p = m - p
-
-up-requires : tie.Need-up-requires Inv-loop μ-loop
-up-requires c κs = search needs
+μ-loop table₀ net m p₀ table p = m - p
 
 loop-holds : tie.Need-loop-holds Inv-loop μ-loop
 loop-holds c = search needs
+
+up-requires : tie.Need-up-requires Inv-loop μ-loop
+up-requires c κs = search needs
 
 at-requires : tie.Need-at-requires Inv-loop μ-loop
 at-requires c κs = search needs
@@ -44,8 +44,8 @@ step5-spec =
     (tie.spec
     Inv-loop
     μ-loop
-    up-requires
     loop-holds
+    up-requires
     at-requires
     gained-requires
     put-requires

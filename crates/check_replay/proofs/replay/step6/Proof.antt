@@ -6,13 +6,10 @@ use Rattle.check_replay.proofs.replay.step6.Statement.{statement}
 use Rattle.check_replay.proofs.replay.step6.Tie as tie
 
 abbrev Inv-loop : tie.InvT-loop
-Inv-loop table₀ bits o m first k p₀ table p = p ≤ m
+Inv-loop table₀ bits net first m p₀ table p = p ≤ m
 
 abbrev μ-loop : tie.MeasureT-loop
-μ-loop table₀ bits o m first k p₀ table p = m - p
-
-up-requires : tie.Need-up-requires Inv-loop μ-loop
-up-requires c κs = search needs
+μ-loop table₀ bits net first m p₀ table p = m - p
 
 last-bits-requires : tie.Need-last-bits-requires Inv-loop μ-loop
 last-bits-requires c κs = search needs
@@ -22,6 +19,9 @@ act-requires c κs = search needs
 
 loop-holds : tie.Need-loop-holds Inv-loop μ-loop
 loop-holds c = search needs
+
+up-requires : tie.Need-up-requires Inv-loop μ-loop
+up-requires c κs = search needs
 
 at-requires : tie.Need-at-requires Inv-loop μ-loop
 at-requires c κs = search needs
@@ -50,10 +50,10 @@ step6-spec =
     (tie.spec
     Inv-loop
     μ-loop
-    up-requires
     last-bits-requires
     act-requires
     loop-holds
+    up-requires
     at-requires
     regained-requires
     put-requires
