@@ -32,7 +32,7 @@ pub fn run_back(
     let step = wirings::step(t, apart);
     let gap = wirings::gap(t, k, apart);
     if m == 2 {
-        apply_widths::pair_back(blocks, width, gap, o, bits, log, e);
+        apply_pairs::pair_back(blocks, width, gap, o, bits, log, e);
         return e + 1;
     }
     let h = m - k;

@@ -99,41 +99,6 @@ fn far(
     }
 }
 
-// A layer of one switch, as a network of two places has it, without a loop: half of all networks are such. Public for the crate
-// `apply_forward` only; it `requires` what `layer` does, for the same reason.
-pub fn pair(
-    blocks: &mut [u8],
-    width: usize,
-    gap: usize,
-    o: usize,
-    bits: &[u8],
-    log: &mut [u16],
-    e: usize,
-)
-    requires { ⌜ Lent width o 1 e (now blocks) (now bits) (now log) × Pairs (blocksIn width (now blocks)) 1 gap 1 ⌝ }
-    ensures { λ _. ⌜ Ran width (bitAt (now (bits .entry))) (layerOf 1 gap 1) o e (now (blocks .entry)) (now (log .entry))
-        (now (blocks .exit)) (now (log .exit)) ⌝ }
-{
-    match width {
-        1 => apply_layers::in_parts(blocks, width, 0, 1, 1, gap, 1, o, bits, log, e),
-        6 => apply_layers::in_parts(blocks, width, 0, 6, 1, gap, 1, o, bits, log, e),
-        8 => apply_layers::in_parts(blocks, width, 0, 8, 1, gap, 1, o, bits, log, e),
-        16 => apply_layers::in_parts(blocks, width, 0, 16, 1, gap, 1, o, bits, log, e),
-        32 => apply_layers::in_parts(blocks, width, 32, 0, 1, gap, 1, o, bits, log, e),
-        64 => apply_layers::in_parts(blocks, width, 64, 0, 1, gap, 1, o, bits, log, e),
-        256 => apply_layers::in_parts(blocks, width, 256, 0, 1, gap, 1, o, bits, log, e),
-        _ => {
-            if width % 32 == 0 {
-                apply_layers::in_parts(blocks, width, width, 0, 1, gap, 1, o, bits, log, e);
-            } else {
-                let rest = width % 32;
-                let w = width / 32 * 32; // the whole parts
-                apply_layers::in_parts(blocks, width, w, rest, 1, gap, 1, o, bits, log, e);
-            }
-        }
-    }
-}
-
 // The layer last to first. Public for the crate `apply_backward` only; it `requires` what `layer` does, for the same reason.
 pub fn layer_back(
     blocks: &mut [u8],
@@ -223,40 +188,6 @@ fn far_back(
                 let rest = width % 32;
                 let w = width / 32 * 32; // the whole parts
                 apply_layers::in_parts_back(blocks, width, w, rest, step, gap, c, o, bits, log, e);
-            }
-        }
-    }
-}
-
-// The same for the return, whose entry has another bit. Public for the crate `apply_backward` only.
-pub fn pair_back(
-    blocks: &mut [u8],
-    width: usize,
-    gap: usize,
-    o: usize,
-    bits: &[u8],
-    log: &mut [u16],
-    e: usize,
-)
-    requires { ⌜ Lent width o 1 e (now blocks) (now bits) (now log) × Pairs (blocksIn width (now blocks)) 1 gap 1 ⌝ }
-    ensures { λ _. ⌜ Ran width (bitBack (now (bits .entry))) (reverse (layerOf 1 gap 1)) o e (now (blocks .entry))
-        (now (log .entry)) (now (blocks .exit)) (now (log .exit)) ⌝ }
-{
-    match width {
-        1 => apply_layers::in_parts_back(blocks, width, 0, 1, 1, gap, 1, o, bits, log, e),
-        6 => apply_layers::in_parts_back(blocks, width, 0, 6, 1, gap, 1, o, bits, log, e),
-        8 => apply_layers::in_parts_back(blocks, width, 0, 8, 1, gap, 1, o, bits, log, e),
-        16 => apply_layers::in_parts_back(blocks, width, 0, 16, 1, gap, 1, o, bits, log, e),
-        32 => apply_layers::in_parts_back(blocks, width, 32, 0, 1, gap, 1, o, bits, log, e),
-        64 => apply_layers::in_parts_back(blocks, width, 64, 0, 1, gap, 1, o, bits, log, e),
-        256 => apply_layers::in_parts_back(blocks, width, 256, 0, 1, gap, 1, o, bits, log, e),
-        _ => {
-            if width % 32 == 0 {
-                apply_layers::in_parts_back(blocks, width, width, 0, 1, gap, 1, o, bits, log, e);
-            } else {
-                let rest = width % 32;
-                let w = width / 32 * 32; // the whole parts
-                apply_layers::in_parts_back(blocks, width, w, rest, 1, gap, 1, o, bits, log, e);
             }
         }
     }

@@ -26,7 +26,7 @@ use Rattle.apply_backward.proofs.run_back.Reads as run-back
 use Rattle.apply_backward.proofs.run_back.Kinds as run-back-kinds
 use Rattle.apply_backward.proofs.+run_back.Lts-run_back as run-back-lts
 use Rattle.apply_widths.proofs.layer_back.Reads as layer-back-reads
-use Rattle.apply_widths.proofs.pair_back.Reads as pair-back-reads
+use Rattle.apply_pairs.proofs.pair_back.Reads as pair-back-reads
 use Rattle.wirings.proofs.gap.Reads as gap-reads
 use Rattle.wirings.proofs.step.Reads as step-reads
 use Rattle.apply_backward.proofs.+run_back.{statement}

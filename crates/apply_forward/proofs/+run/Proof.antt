@@ -25,7 +25,7 @@ use Rattle.apply_forward.proofs.run.Reads as run
 use Rattle.apply_forward.proofs.run.Kinds as run-kinds
 use Rattle.apply_forward.proofs.+run.Lts-run as run-lts
 use Rattle.apply_widths.proofs.layer.Reads as layer-reads
-use Rattle.apply_widths.proofs.pair.Reads as pair-reads
+use Rattle.apply_pairs.proofs.pair.Reads as pair-reads
 use Rattle.wirings.proofs.gap.Reads as gap-reads
 use Rattle.wirings.proofs.step.Reads as step-reads
 use Rattle.apply_forward.proofs.+run.{statement}
