@@ -22,7 +22,8 @@ use Rattle.apply_questions.proofs.Asked.{Fits, passes, fit-passes, asked-well}
 -- what a call that is not refused comes to
 settled-yes : (v : Verdict) (count : ℕ) (words b entries l : List ℕ) → v ≡ allYes → length words ≡ length b
     → settledLogged v count words b entries l ≡ logged (accepted count) words (overlay l 0 entries)
-settled-yes v count words b entries l e long = rw e (ap (λ bytes. logged (accepted count) bytes (overlay l 0 entries)) (overlay-whole b words long))
+settled-yes v count words b entries l e long =
+    rw e (ap (λ bytes. logged (accepted count) bytes (overlay l 0 entries)) (overlay-whole b words long))
 
 module _ (w : Wiring) (n width : ℕ) (b bits l : List ℕ) where
   -- number 0 only where every question gets a yes
@@ -41,14 +42,18 @@ module _ (w : Wiring) (n width : ℕ) (b bits l : List ℕ) where
 
 module _ {w : Wiring} (L : Lawful w) where
   module _ (n width : ℕ) (b bits l : List ℕ) (f : Fits n width (length b) bits (length l)) where
-    pub apply-accepted : applyCallIn w n width b bits l ≡ logged (accepted (W n)) (moved w n width bits b) (overlay l 0 (words (applyEntries w n)))
+    pub apply-accepted : applyCallIn w n width b bits l
+        ≡ logged (accepted (W n)) (moved w n width bits b) (overlay l 0 (words (applyEntries w n)))
     apply-accepted =
-        settled-yes (firstNo (applyQuestions n width (length b) bits (length l))) (W n) (moved w n width bits b) b (words (applyEntries w n)) l
+        settled-yes (firstNo (applyQuestions n width (length b) bits (length l))) (W n) (moved w n width bits b) b
+        (words (applyEntries w n)) l
         (fit-passes f) (length-moved L n width bits b (f .whole) ∙ sym (f .whole))
 
-    pub inverse-accepted : inverseCallIn w n width b bits l ≡ logged (accepted (W n)) (movedBack w n width bits b) (overlay l 0 (words (inverseEntries w n)))
+    pub inverse-accepted : inverseCallIn w n width b bits l
+        ≡ logged (accepted (W n)) (movedBack w n width bits b) (overlay l 0 (words (inverseEntries w n)))
     inverse-accepted =
-        settled-yes (firstNo (applyQuestions n width (length b) bits (length l))) (W n) (movedBack w n width bits b) b (words (inverseEntries w n)) l
+        settled-yes (firstNo (applyQuestions n width (length b) bits (length l))) (W n) (movedBack w n width bits b) b
+        (words (inverseEntries w n)) l
         (fit-passes f) (length-movedBack L n width bits b (f .whole) ∙ sym (f .whole))
 
   -- what was mixed and returned under the same bits is as it was

@@ -92,12 +92,13 @@ module _ (t : Topology) (n width : ℕ) (b bits l : List ℕ) where
 
       module _ {b′ l′ : List ℕ} {count : ℕ} {a : Answer} (reports : a ≡ accepted count) (counted : count ≡ 0 + W n)
           (kept : length b′ ≡ length b) where
-        pub apply-settles : Ran width (bitAt bits) (switchesOf (wholeOf t n)) 0 0 b l b′ l′ → logged a b′ l′ ≡ applyCallIn (wiringOf t) n width b
-            bits l
+        pub apply-settles : Ran width (bitAt bits) (switchesOf (wholeOf t n)) 0 0 b l b′ l′
+            → logged a b′ l′ ≡ applyCallIn (wiringOf t) n width b bits l
         unfolding moved runApply
         apply-settles ran =
             let f = fits in
-            settles n width verdict (forward [] (wiringOf t) (network n) bits (cut width n b)) well reports (counted ∙ zero-add (W n)) (f .low)
+            settles n width verdict (forward [] (wiringOf t) (network n) bits (cut width n b)) well reports (counted ∙ zero-add (W n))
+            (f .low)
             (f .whole) kept
             (run-apply [] (lawful t) n bits (cut width n b) (length-cut width n b)) (rw (all-switches t n) at ran)
 
@@ -106,7 +107,8 @@ module _ (t : Topology) (n width : ℕ) (b bits l : List ℕ) where
         unfolding movedBack runInverse inverseEntries
         inverse-settles ran =
             let f = fits in
-            settles n width verdict (backward [] (wiringOf t) (network n) bits (cut width n b)) well reports (counted ∙ zero-add (W n)) (f .low)
+            settles n width verdict (backward [] (wiringOf t) (network n) bits (cut width n b)) well reports (counted ∙ zero-add (W n))
+            (f .low)
             (f .whole) kept
             (ap (λ c. runFrom [] (λ e. getD bits (c - 1 - e) 0) 0 (inverseEntries (wiringOf t) n) (cut width n b)) (f .count)
             ∙ run-inverse [] (lawful t) n bits (cut width n b) (length-cut width n b)) (rw (all-switches t n) at ran)

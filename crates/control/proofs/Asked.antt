@@ -74,15 +74,18 @@ module _ (order bits log : List ℕ) where
         unfolding from-6
         all-yes e =
             past-5
-            ∙ asked-yes 6 (firstBadEntry order) (eqb (firstBadEntry order) (length order)) [] (eq-eqb (firstBadEntry order) (length order) e)
+            ∙ asked-yes 6 (firstBadEntry order) (eqb (firstBadEntry order) (length order)) []
+            (eq-eqb (firstBadEntry order) (length order) e)
 
   -- a refused call: nothing is written
-  pub refused : (w : Wiring) {a : Answer} {bits′ log′ : List ℕ} (q p : ℕ) → firstNo (setQuestions order bits log) ≡ noAt q p → a ≡ refusal q p → bits′ ≡ bits
+  pub refused : (w : Wiring) {a : Answer} {bits′ log′ : List ℕ} (q p : ℕ) → firstNo (setQuestions order bits log) ≡ noAt q p
+      → a ≡ refusal q p → bits′ ≡ bits
       → log′ ≡ log → logged a bits′ log′ ≡ setCallIn w order bits log
   refused w q p e r b l = logged-refused _ _ _ _ _ _ e r b l
 
   -- an accepted call: what the setter left
-  pub taken : (w : Wiring) {a : Answer} {bits′ log′ : List ℕ} (count : ℕ) → firstNo (setQuestions order bits log) ≡ allYes → SetsIn w order log count bits′ log′
+  pub taken : (w : Wiring) {a : Answer} {bits′ log′ : List ℕ} (count : ℕ) → firstNo (setQuestions order bits log) ≡ allYes
+      → SetsIn w order log count bits′ log′
       → length bits′ ≡ length bits → a ≡ accepted count → logged a bits′ log′ ≡ setCallIn w order bits log
   taken w count e S k r =
       logged-accepted (firstNo (setQuestions order bits log)) (E (length order)) (settingFor w order) bits

@@ -1,5 +1,6 @@
 // The call set (01), and the same in each wiring (02, F-6): questions 1, 4, 5, 6; then the setter.
-// The wiring is public. Hidden: the order's entries and the bits. No branch and no index below depends on one of these, but for question 6's answer.
+// The wiring is public. Hidden: the order's entries and the bits. No branch and no index below depends on one of these, but for
+// question 6's answer.
 ghost use mathlib.Core.Path.{_≡_};
 ghost use Rattle.answers.specs.Outcomes.{logged};
 ghost use Rattle.wirings.specs.Nets.{wiringOf};

@@ -86,7 +86,8 @@ tidy-start order =
     }
 
 pub ordered-start : (t : Topology) (order vs ts bs : List ℕ) → length order ≤ 1024 → IsPermutation (length order) order → vs ≡ order
-    → length ts ≡ length order → length bs ≡ W (length order) → Ordered (subnetworkOf (wholeOf t (length order)) 0) (unmarked 512 vs ts bs still)
+    → length ts ≡ length order → length bs ≡ W (length order)
+    → Ordered (subnetworkOf (wholeOf t (length order)) 0) (unmarked 512 vs ts bs still)
 ordered-start t order vs ts bs h P e lt lb =
     let lv : length vs ≡ length order = ap length e in
     record {
@@ -133,7 +134,8 @@ sets-whole t order vs ts bs bits log bits′ log′ vs′ ts′ r e₁ e₂ e₄
     }
 
 -- and the room that it starts with
-pub room-start : (t : Topology) (order vs ts ps bs log : List ℕ) → length order ≤ 1024 → length vs ≡ length order → ts ≡ replicate {A = ℕ} (length order) 0
+pub room-start : (t : Topology) (order vs ts ps bs log : List ℕ) → length order ≤ 1024 → length vs ≡ length order
+    → ts ≡ replicate {A = ℕ} (length order) 0
     → 512 ≤ length ps → length bs ≡ W (length order) → length bs ≤ 9217 → entryWords * E (length order) ≤ length log
     → Room (wholeOf t (length order)) still vs ts ps bs log
 room-start t order vs ts ps bs log h lv et lp lb few ll =

@@ -1,5 +1,6 @@
 // The setter after its questions: a whole network on hidden tables of its own.
-// The wiring is public. Hidden: the order's entries, the tables, f, c, g, s, any and the bits. No branch and no index below depends on one of these.
+// The wiring is public. Hidden: the order's entries, the tables, f, c, g, s, any and the bits. No branch and no index below depends on
+// one of these.
 ghost use mathlib.Core.Path.{_≡_};
 ghost use Prim.Native.Nat.{_*_, _≤_};
 ghost use lib.ListN.{length, replicate};

@@ -71,7 +71,8 @@ module _ (n : ℕ) (given out : List ℕ) where
         ends-accepted _ _ _ _ e r (is ∙ sym (overlay-whole out (converted from n given) (ap length (sym is) ∙ long)))
 
 -- the order that the given setting carries stands at the front of a local array
-module _ (from : Topology) (n : ℕ) (given zeros : List ℕ) {order : List ℕ} (e : order ≡ overlay zeros 0 (orderOf (wiringOf from) n given)) where
+module _ (from : Topology) (n : ℕ) (given zeros : List ℕ) {order : List ℕ}
+    (e : order ≡ overlay zeros 0 (orderOf (wiringOf from) n given)) where
   front : take n order ≡ orderOf (wiringOf from) n given
   front = order-front (lawful from) n given zeros e
 

@@ -86,7 +86,8 @@ module _ (t : Topology) (n : ℕ) (bits blocks : List ℕ) (long : length blocks
           omega (arith, low, high)
 
 -- no question of the return gets a no
-returned : (t : Topology) (n : ℕ) (bits blocks log : List ℕ) {a : Answer} {after log′ : List ℕ} → n ≤ 1024 → W n ≤ 9217 → length bits ≡ W n → Bits bits
+returned : (t : Topology) (n : ℕ) (bits blocks log : List ℕ) {a : Answer} {after log′ : List ℕ} → n ≤ 1024 → W n ≤ 9217
+    → length bits ≡ W n → Bits bits
     → length blocks ≡ n * 2 → length log ≡ entryWords * 9217 → logged a after log′ ≡ inverseCallIn (wiringOf t) n 2 blocks bits log
     → after ≡ movedBack (wiringOf t) n 2 bits blocks
 returned t n bits blocks log few small count areBits long room e =

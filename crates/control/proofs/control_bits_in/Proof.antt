@@ -18,7 +18,10 @@ refuse-requires : tie.Need-refuse-requires
 refuse-requires c κs = search needs
 
 returns : tie.Need-returns
-returns c = refused (c .before .before .before .before .before .args .order .now) (c .before .before .before .before .before .args .bits .now) (c .before .before .before .before .before .args .log .now) (wiringOf (c .before .before .before .before .before .args .t)) 1 0 (no-1 (c .before .before .before .before .before .args .order .now) (c .before .before .before .before .before .args .bits .now) (c .before .before .before .before .before .args .log .now) (c .before .if1 .taken)) (c .refuse .ensures) refl refl
+returns c =
+    let a = c .before .before .before .before .before .args in
+    refused (a .order .now) (a .bits .now) (a .log .now) (wiringOf (a .t)) 1 0
+    (no-1 (a .order .now) (a .bits .now) (a .log .now) (c .before .if1 .taken)) (c .refuse .ensures) refl refl
 
 switches-requires : tie.Need-switches-requires
 switches-requires c κs = search needs
@@ -28,8 +31,11 @@ refuse-requires-2 c κs = search needs
 
 returns-2 : tie.Need-returns-2
 returns-2 c =
-    let e : length (c .before .before .before .before .before .before .before .args .bits .now) ≡ W (length (c .before .before .before .before .before .before .before .args .order .now)) → ⊥ = λ q. c .before .if2 .taken (q ∙ sym (c .before .before .switches .ensures .0)) in
-    refused (c .before .before .before .before .before .before .before .args .order .now) (c .before .before .before .before .before .before .before .args .bits .now) (c .before .before .before .before .before .before .before .args .log .now) (wiringOf (c .before .before .before .before .before .before .before .args .t)) 4 0 (no-4 (c .before .before .before .before .before .before .before .args .order .now) (c .before .before .before .before .before .before .before .args .bits .now) (c .before .before .before .before .before .before .before .args .log .now) (c .before .before .before .if1 .left) e) (c .refuse2 .ensures) refl refl
+    let w = c .before .before in
+    let a = w .before .before .before .before .before .args in
+    let e : length (a .bits .now) ≡ W (length (a .order .now)) → ⊥ = λ q. c .before .if2 .taken (q ∙ sym (w .switches .ensures .0)) in
+    refused (a .order .now) (a .bits .now) (a .log .now) (wiringOf (a .t)) 4 0
+    (no-4 (a .order .now) (a .bits .now) (a .log .now) (w .before .if1 .left) e) (c .refuse2 .ensures) refl refl
 
 entries-requires : tie.Need-entries-requires
 entries-requires c κs = search needs
@@ -46,7 +52,9 @@ returns-3 c =
     let b5 = b4 .before in
     let b9 = b5 .before .before .before .before in
     refused (b9 .args .order .now) (b9 .args .bits .now) (b9 .args .log .now) (wiringOf (b9 .args .t)) 5 0
-    (no-5 (b9 .args .order .now) (b9 .args .bits .now) (b9 .args .log .now) (b5 .if1 .left) (c .before .before .before .if2 .left ∙ b4 .switches .ensures .0) (omega (arith, c .before .if3 .taken, c .before .before .entries .ensures .0))) (c .refuse3 .ensures) refl refl
+    (no-5 (b9 .args .order .now) (b9 .args .bits .now) (b9 .args .log .now) (b5 .if1 .left)
+    (c .before .before .before .if2 .left ∙ b4 .switches .ensures .0)
+    (omega (arith, c .before .if3 .taken, c .before .before .entries .ensures .0))) (c .refuse3 .ensures) refl refl
 
 first-bad-entry-requires : tie.Need-first-bad-entry-requires
 first-bad-entry-requires c κs = search needs
@@ -62,8 +70,11 @@ returns-4 c =
     let b7 = b6 .before in
     let b11 = b7 .before .before .before .before in
     let f = c .before .before .first-bad-entry .ensures in
-    refused (b11 .args .order .now) (b11 .args .bits .now) (b11 .args .log .now) (wiringOf (b11 .args .t)) 6 (firstBadEntry (b11 .args .order .now))
-    (no-6 (b11 .args .order .now) (b11 .args .bits .now) (b11 .args .log .now) (b7 .if1 .left) (b5 .if2 .left ∙ b6 .switches .ensures .0) (omega (arith, c .before .before .before .if3 .left, b4 .entries .ensures .0)) (λ e. c .before .if4 .taken (f ∙ e))) (c .refuse4 .ensures ∙ ap (refusal 6) f) refl refl
+    refused (b11 .args .order .now) (b11 .args .bits .now) (b11 .args .log .now) (wiringOf (b11 .args .t)) 6
+    (firstBadEntry (b11 .args .order .now))
+    (no-6 (b11 .args .order .now) (b11 .args .bits .now) (b11 .args .log .now) (b7 .if1 .left) (b5 .if2 .left ∙ b6 .switches .ensures .0)
+    (omega (arith, c .before .before .before .if3 .left, b4 .entries .ensures .0)) (λ e. c .before .if4 .taken (f ∙ e)))
+    (c .refuse4 .ensures ∙ ap (refusal 6) f) refl refl
 
 set-order-in-requires : tie.Need-set-order-in-requires
 set-order-in-requires c κs =
@@ -105,7 +116,9 @@ returns-5 c =
     let b18 = b14 .before .before .before .before in
     let s = b5 .set-order-in in
     taken (b18 .args .order .now) (b18 .args .bits .now) (b18 .args .log .now) (wiringOf (b18 .args .t)) (s .result)
-    (all-yes (b18 .args .order .now) (b18 .args .bits .now) (b18 .args .log .now) (b14 .if1 .left) (b12 .if2 .left ∙ b13 .switches .ensures .0) (omega (arith, b10 .if3 .left, b11 .entries .ensures .0)) (sym (b9 .first-bad-entry .ensures) ∙ b8 .if4 .left)) (s .ensures) (s .kept .1 .1 .0)
+    (all-yes (b18 .args .order .now) (b18 .args .bits .now) (b18 .args .log .now) (b14 .if1 .left)
+    (b12 .if2 .left ∙ b13 .switches .ensures .0) (omega (arith, b10 .if3 .left, b11 .entries .ensures .0))
+    (sym (b9 .first-bad-entry .ensures) ∙ b8 .if4 .left)) (s .ensures) (s .kept .1 .1 .0)
     (c .accept .ensures)
 
 pub control-bits-in-spec : {M : Type 1} → statement M

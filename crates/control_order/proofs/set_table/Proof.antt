@@ -31,7 +31,8 @@ set-network-requires c κs =
     let o = a .order .now in
     let bs : b .last .0 ≡ replicate {A = ℕ} (W (length o)) 0 = b .ensures ∙ cleared (a .bits .now) (W (length o)) (s .pre .5) in
     rw (c .before .whole .ensures) (
-      room-start (a .t) o (v .last .0) (a .trails .now) (a .pairs .now) (b .last .0) (a .log .now) (s .pre .0) (v .kept .0 ∙ s .pre .2) (s .pre .3)
+      room-start (a .t) o (v .last .0) (a .trails .now) (a .pairs .now) (b .last .0) (a .log .now) (s .pre .0) (v .kept .0 ∙ s .pre .2)
+          (s .pre .3)
           (s .pre .4) (b .kept .0 ∙ s .pre .5) (omega (arith, b .kept .0, s .pre .6)) (s .pre .7),
       tidy-is (sym (start-is o (v .last .0) (a .trails .now) (b .last .0) (v .ensures) (s .pre .3) bs)) (tidy-start o),
       ordered-start (a .t) o (v .last .0) (a .trails .now) (b .last .0) (s .pre .0) (s .pre .1) (v .ensures)

@@ -39,7 +39,8 @@ sub-result-2 c = search needs
 
 returns : tie.Need-returns
 unfolding wiringOf
-returns c = let a = c .before .before .before .args in rw (c .before .enum-told .given .1, c .at-least .ensures) (pairs (a .k) (a .p) .across)
+returns c =
+    let a = c .before .before .before .args in rw (c .before .enum-told .given .1, c .at-least .ensures) (pairs (a .k) (a .p) .across)
 
 returns-2 : tie.Need-returns-2
 unfolding wiringOf

@@ -20,7 +20,8 @@ refuse-requires c κs = search needs
 returns : tie.Need-returns
 returns c =
     let a = c .before .before .before .before .args in
-    refused (a .n) (a .given .now) (a .out .now) (a .from) (no1 (a .n) (a .given .now) (a .out .now) (c .before .if1 .taken)) (c .refuse .ensures)
+    refused (a .n) (a .given .now) (a .out .now) (a .from) (no1 (a .n) (a .given .now) (a .out .now) (c .before .if1 .taken))
+    (c .refuse .ensures)
 
 switches-requires : tie.Need-switches-requires
 switches-requires c κs = search needs
@@ -91,7 +92,8 @@ slice-aggregate-setting-of-order-in c =
     let o = c .before .before in
     let w = o .before .before .before .before .before .before in
     let a = w .before .before .before .before .args in
-    sym (length-take-le _ _ (order-room (lawful (a .from)) (a .n) (a .given .now) (replicate {A = ℕ} 1024 0) (o .order-of-setting-in .ensures)
+    sym (length-take-le _ _
+    (order-room (lawful (a .from)) (a .n) (a .given .now) (replicate {A = ℕ} 1024 0) (o .order-of-setting-in .ensures)
     (omega (arith, w .before .if1 .left, length-replicate {A = ℕ} 1024 0))))
 
 setting-of-order-in-requires : tie.Need-setting-of-order-in-requires
