@@ -5,7 +5,7 @@
 #define PLACES 1024
 #define WIDTH 256
 #define SWITCHES 9217
-#define WORDS (3 * 16381)
+#define WORDS (4 * 16381)
 
 enum { SET, MIX, RETURN, ENTRIES, CALLS };
 enum { PAPER, NEIGHBOUR };
@@ -13,6 +13,7 @@ static const char *const names[2][CALLS] = {{"control_bits", "apply", "apply_inv
                                             {"neighbour_control_bits", "neighbour_apply", "neighbour_apply_inverse", "entries"}};
 static const char *const words[CALLS] = {"set", "mix", "return", "entries"};
 static void *loaded[2][OBJECTS][CALLS];
+static size_t entry_words[2]; /* an earlier library may have three */
 
 /* what the calls work on: the same memory for both libraries, since where a block begins moves a time by a tenth */
 static struct work {
@@ -63,6 +64,17 @@ static void load(const char *from, int side, int wiring) {
     int object, c;
     for (object = 0; object < OBJECTS; object++)
         for (c = 0; c < CALLS; c++) loaded[side][object][c] = find(from, object, names[wiring][c]);
+    fill(2, 1);
+    for (entry_words[side] = 1;; entry_words[side]++) /* those with which a log of one entry is not refused */
+        if (((moving *)loaded[side][0][MIX])(2, 1, work.blocks, 2, work.bits, 1, work.log, entry_words[side]).number == 0) break;
+}
+
+/* whether work, by the first side, and left, by the second, are the same, but for words that one side's entries lack */
+static int alike(void) {
+    size_t a = entry_words[0], b = entry_words[1], e, k, same = 1;
+    for (e = 0; e < (called == SET ? entries : called == ENTRIES ? 0 : switches); e++)
+        for (k = 0; k < a && k < b; k++) same &= work.log[a * e + k] == left.log[b * e + k];
+    return same && !memcmp(work.bits, left.bits, sizeof work.bits) && !memcmp(work.blocks, left.blocks, sizeof work.blocks);
 }
 
 /* two libraries leave the same; two wirings do not, or one of them was timed twice */
@@ -74,18 +86,18 @@ static void line(int c, size_t places, size_t bytes, int wirings) {
     left = work;
     fill(places, bytes);
     batch(run, 0, 1);
-    check(!memcmp(&work, &left, sizeof work) == !wirings, wirings ? "the wirings do not differ" : "the libraries differ");
+    check(alike() == !wirings, wirings ? "the wirings do not differ" : "the libraries differ");
     snprintf(size, sizeof size, c == MIX || c == RETURN ? "%zu × %zu" : "%zu", places, bytes);
     measure(words[c], size, 2, run);
 }
 
 static const size_t places[3] = {16, 128, 1024};
 
-/* now and before; one call where it is named */
-static int libraries(char **objects, const char *only) {
+/* now and before, in one wiring; one call where it is named */
+static int libraries(char **objects, const char *only, int wiring) {
     static const size_t widths[6] = {1, 6, 8, 16, 64, 256};
     int c, k, j, lines = 0;
-    for (k = 0; k < 2; k++) load(objects[k], k, PAPER);
+    for (k = 0; k < 2; k++) load(objects[k], k, wiring);
     heading(2);
     for (c = 0; c < CALLS; c++)
         for (k = 0; k < 3 && (!only || !strcmp(only, words[c])); k++)
@@ -116,8 +128,9 @@ int main(int argc, char **argv) {
         return 0;
     }
     check(argc == 3 || argc == 4, "which objects?");
+    if (argc == 4 && !strcmp(argv[3], "neighbour-before")) return libraries(argv + 1, NULL, NEIGHBOUR) == 0;
     if (argc == 3 || strcmp(argv[3], "neighbour"))
-        check(libraries(argv + 1, argc == 4 ? argv[3] : NULL) > 0, "which call? set, mix, return, entries or neighbour");
+        check(libraries(argv + 1, argc == 4 ? argv[3] : NULL, PAPER) > 0, "which call? set, mix, return, entries or neighbour");
     if (argc == 3) printf("\n");
     if (argc == 3 || !strcmp(argv[3], "neighbour")) both_wirings(argv[1]);
     return 0;

@@ -76,11 +76,11 @@ fn measure(n: usize, width: usize) -> ([f64; 8], String, String) {
     let x: Vec<u8> = (0..n * width).map(|_| next() as u8).collect();
     let (w, e) = (peers::switches(n), peers::entries(n));
     // every way gives the same, log and all
-    let (mut bits, mut b2, mut l, mut l2) = (vec![9; w], vec![8; w], vec![9; 3 * e], vec![8; 3 * e]);
+    let (mut bits, mut b2, mut l, mut l2) = (vec![9; w], vec![8; w], vec![9; 4 * e], vec![8; 4 * e]);
     assert_eq!(lib_set(&order, &mut bits, &mut l), peers::set(&order, &mut b2, &mut l2));
     assert!(bits == b2 && l == l2);
     let (mut y, mut z, mut s, mut t) = (x.clone(), x.clone(), x.clone(), x.clone());
-    let (mut l, mut l2) = (vec![9; 3 * w], vec![8; 3 * w]);
+    let (mut l, mut l2) = (vec![9; 4 * w], vec![8; 4 * w]);
     assert_eq!(lib_apply::<false>(n, width, &mut y, &bits, &mut l), peers::apply::<false>(n, width, &mut z, &bits, &mut l2));
     peers::scatter(&order, width, &x, &mut s);
     peers::bitonic(width, &mut order.clone(), &mut t);
@@ -89,7 +89,7 @@ fn measure(n: usize, width: usize) -> ([f64; 8], String, String) {
     assert!(y == z && l == l2 && y == x);
 
     let (mut p, mut q, mut r, mut u) = (x.clone(), x.clone(), x.clone(), x.clone());
-    let mut logs = vec![vec![0u16; 3 * e.max(w)]; 6];
+    let mut logs = vec![vec![0u16; 4 * e.max(w)]; 6];
     let [la, lb, lc, ld, le, lf] = &mut logs[..] else { unreachable!() };
     let (mut sa, mut sb) = (bits.clone(), bits.clone());
     let mut keys = order.clone();

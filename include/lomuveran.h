@@ -8,13 +8,13 @@
  * What the caller owes, as everywhere in C: a pointer is aligned, is not NULL even where the length behind it is 0, and points
  * to as many items as that length says; what a call may write overlaps nothing else that the same call is handed.
  *
- * Stack: at 1,024 places the calls need at most 15 KB of it (control_bits and neighbour_control_bits 14.8, permutation_combine 10.6,
- * ranked_order 10.3 at 6 places, permutation_exchange and permutation_inverse 6.5, write_sheet 4.8, shuffle and
- * permutation_identity 4.5, read_sheet 3.5, apply and neighbour_apply 3.3, apply_inverse and neighbour_apply_inverse 3.1, the others
- * 2.1 or less), but to_neighbour and to_paper 115.2, since they keep a setter's log aside, as bench/stack reads from the object code.
- * For a thread allow 20 KB, for to_neighbour and to_paper 120 KB, which holds the C library's own needs too: its first memcpy, where
+ * Stack: at 1,024 places the calls need at most 16 KB of it (control_bits and neighbour_control_bits 15.5, permutation_combine 10.6,
+ * ranked_order 10.6 at 6 places, permutation_exchange and permutation_inverse 6.5, write_sheet 4.8, shuffle and
+ * permutation_identity 4.5, read_sheet 3.5, apply, apply_inverse, neighbour_apply and neighbour_apply_inverse 3.1, the others
+ * 2.1 or less), but to_neighbour and to_paper 148.6, since they keep a setter's log aside, as bench/stack reads from the object code.
+ * For a thread allow 20 KB, for to_neighbour and to_paper 155 KB, which holds the C library's own needs too: its first memcpy, where
  * it is linked dynamically, takes some KB more (control_bits and neighbour_control_bits ran in 19 KB and not in 18, to_neighbour and
- * to_paper in 117 and not in 116, permutation_combine in 18; the other calls on permutations, ranked_order, apply, apply_inverse,
+ * to_paper in 149 and not in 148, permutation_combine in 18; the other calls on permutations, ranked_order, apply, apply_inverse,
  * neighbour_apply, neighbour_apply_inverse and write_sheet in 16). No heap. */
 #ifndef LOMUVERAN_H
 #define LOMUVERAN_H
@@ -26,7 +26,10 @@
 extern "C" {
 #endif
 
-/* The most places, and what they need: bits, entries of the setter's log, bytes of a sheet. An entry is 3 words. */
+/* The most places, and what they need: bits, entries of the setter's log, bytes of a sheet. An entry is 4 words. Of the setter: a
+ * kind from 1 to 6, the first place and the number of places of its network, and where in the setting the network's first bit stands.
+ * Of mix and return: 7, the lower and the upper place of its switch, and where its bit stands. So a log can be replayed from any
+ * entry on. */
 #define LOMUVERAN_MAX_PLACES 1024
 #define LOMUVERAN_MAX_WIDTH 256
 #define LOMUVERAN_MAX_SWITCHES 9217
@@ -43,7 +46,7 @@ enum {
     LOMUVERAN_WIDTH = 2,           /* is the block width 1 to 256 bytes (of a gauge's report: 6)? */
     LOMUVERAN_BLOCKS = 3,          /* do the blocks fill exactly n * width bytes? */
     LOMUVERAN_BIT_COUNT = 4,       /* are there exactly as many bit bytes as switches (reading a sheet: at least)? */
-    LOMUVERAN_LOG = 5,             /* has the log at least 3 words for each entry due? */
+    LOMUVERAN_LOG = 5,             /* has the log at least 4 words for each entry due? */
     LOMUVERAN_ENTRY = 6,           /* is each entry below n and unlike all earlier ones? place: the first bad index. Then, of a
                                     * record: is its number how many entries stay home? place: 1,024 */
     LOMUVERAN_BIT = 7,             /* is every bit byte 0 or 1? place: the first bad index */
@@ -77,13 +80,13 @@ lomuveran_answer lomuveran_entries(size_t n);
 /* ---- set, mix, return */
 
 /* Set: the control bits of an order, a byte to a bit. order[i] is the place to which the block at place i goes.
- * bit_count: exactly the switches of order_len places; log_words: at least 3 for each entry of the setter.
+ * bit_count: exactly the switches of order_len places; log_words: at least 4 for each entry of the setter.
  * Questions 1, 4, 5, 6. Count: the entries logged. */
 lomuveran_answer lomuveran_control_bits(const uint16_t *order, size_t order_len, uint8_t *bits, size_t bit_count,
                                         uint16_t *log, size_t log_words);
 
 /* Mix: moves n blocks of width bytes through the network, in place. block_bytes: n * width; bit_count: exactly the switches
- * of n places; log_words: at least 3 for each switch. Questions 1, 2, 3, 4, 5, 7. Count: the entries logged. */
+ * of n places; log_words: at least 4 for each switch. Questions 1, 2, 3, 4, 5, 7. Count: the entries logged. */
 lomuveran_answer lomuveran_apply(size_t n, size_t width, uint8_t *blocks, size_t block_bytes, const uint8_t *bits,
                                  size_t bit_count, uint16_t *log, size_t log_words);
 
@@ -106,7 +109,7 @@ lomuveran_drawn lomuveran_shuffle(size_t n, const uint32_t *words, size_t word_c
 
 /* Every order of a few places, n at most LOMUVERAN_MAX_LISTED: of all orders of n places in dictionary order (0 to 6 places have
  * 1, 1, 2, 6, 24, 120, 720 of them) the one of number r, counted from 0, over the front of order; its control bits and the log
- * are those of lomuveran_control_bits. order_len: at least n; bit_count: exactly the switches of n places; log_words: at least 3
+ * are those of lomuveran_control_bits. order_len: at least n; bit_count: exactly the switches of n places; log_words: at least 4
  * for each entry of the setter. r tells the order, so it is treated as a secret: the one decision that follows it is question
  * 14's. Questions 17, 14, 13, 4, 5. Count: the entries logged. */
 lomuveran_answer lomuveran_ranked_order(size_t n, size_t r, uint16_t *order, size_t order_len, uint8_t *bits, size_t bit_count,

@@ -31,8 +31,8 @@ pub fn switches(n: usize) -> Result<usize, Refusal> {
     unsafe { ffi::lomuveran_switches(n) }.count()
 }
 
-/// How many entries [`control_bits`] logs for n places; each is three words. [`apply`] and [`apply_inverse`] log one entry for
-/// each switch.
+/// How many entries [`control_bits`] logs for n places; each is the four words of an [`Entry`](crate::Entry). [`apply`] and
+/// [`apply_inverse`] log one entry for each switch.
 ///
 /// ```
 /// assert_eq!(lomuveran::entries(9), Ok(56));
@@ -46,7 +46,7 @@ pub fn entries(n: usize) -> Result<usize, Refusal> {
 /// exactly as many bytes as there are switches. Questions 1, 4, 5, 6. Gives the number of entries logged.
 ///
 /// ```
-/// let (mut bits, mut log) = ([0; 3], [0; 33]);
+/// let (mut bits, mut log) = ([0; 3], [0; 44]);
 /// assert_eq!(lomuveran::control_bits(&[1, 2, 0], &mut bits, &mut log), Ok(11));
 /// assert_eq!(bits, [0, 1, 1]);
 /// ```
@@ -58,10 +58,10 @@ pub fn control_bits(order: &[u16], bits: &mut [u8], log: &mut [u16]) -> Result<u
 /// logged.
 ///
 /// ```
-/// let (mut blocks, mut log) = (*b"abc", [0; 9]);
+/// let (mut blocks, mut log) = (*b"abc", [0; 12]);
 /// assert_eq!(lomuveran::apply(3, 1, &mut blocks, &[0, 1, 1], &mut log), Ok(3));
 /// assert_eq!(&blocks, b"cab");
-/// assert_eq!(log, [7, 0, 2, 7, 0, 1, 7, 0, 2]);
+/// assert_eq!(log, [7, 0, 2, 0, 7, 0, 1, 1, 7, 0, 2, 2]);
 /// ```
 pub fn apply(n: usize, width: usize, blocks: &mut [u8], bits: &[u8], log: &mut [u16]) -> Result<usize, Refusal> {
     moved(ffi::lomuveran_apply, n, width, blocks, bits, log)
@@ -70,9 +70,10 @@ pub fn apply(n: usize, width: usize, blocks: &mut [u8], bits: &[u8], log: &mut [
 /// Moves them back. As [`apply`].
 ///
 /// ```
-/// let (mut blocks, mut log) = (*b"cab", [0; 9]);
+/// let (mut blocks, mut log) = (*b"cab", [0; 12]);
 /// assert_eq!(lomuveran::apply_inverse(3, 1, &mut blocks, &[0, 1, 1], &mut log), Ok(3));
 /// assert_eq!(&blocks, b"abc");
+/// assert_eq!(log, [7, 0, 2, 2, 7, 0, 1, 1, 7, 0, 2, 0]);
 /// ```
 pub fn apply_inverse(n: usize, width: usize, blocks: &mut [u8], bits: &[u8], log: &mut [u16]) -> Result<usize, Refusal> {
     moved(ffi::lomuveran_apply_inverse, n, width, blocks, bits, log)
@@ -111,7 +112,7 @@ pub fn shuffle(n: usize, words: &[u32], out: &mut [u16]) -> Result<Drawn, Refusa
 /// order. Questions 17, 14, 13, 4, 5. Gives the number of entries logged.
 ///
 /// ```
-/// let (mut order, mut bits, mut log) = ([9; 4], [0; 3], [0; 33]);
+/// let (mut order, mut bits, mut log) = ([9; 4], [0; 3], [0; 44]);
 /// assert_eq!(lomuveran::ranked_order(3, 3, &mut order, &mut bits, &mut log), Ok(11));
 /// assert_eq!(order, [1, 2, 0, 9]);
 /// assert_eq!(bits, [0, 1, 1]);
@@ -138,7 +139,7 @@ pub fn ranked_order(n: usize, r: usize, order: &mut [u16], bits: &mut [u8], log:
 /// there. A setting does not say which wiring it is of: [`NeighbourSetting`](crate::NeighbourSetting) keeps them apart.
 ///
 /// ```
-/// let (mut bits, mut log) = ([0; 3], [0; 33]);
+/// let (mut bits, mut log) = ([0; 3], [0; 44]);
 /// assert_eq!(lomuveran::neighbour_control_bits(&[1, 2, 0], &mut bits, &mut log), Ok(11));
 /// assert_eq!(bits, [1, 1, 0]);
 /// ```
@@ -149,10 +150,10 @@ pub fn neighbour_control_bits(order: &[u16], bits: &mut [u8], log: &mut [u16]) -
 /// [`apply`] in the neighbour wiring.
 ///
 /// ```
-/// let (mut blocks, mut log) = (*b"abc", [0; 9]);
+/// let (mut blocks, mut log) = (*b"abc", [0; 12]);
 /// assert_eq!(lomuveran::neighbour_apply(3, 1, &mut blocks, &[1, 1, 0], &mut log), Ok(3));
 /// assert_eq!(&blocks, b"cab");
-/// assert_eq!(log, [7, 0, 1, 7, 0, 2, 7, 0, 1]);
+/// assert_eq!(log, [7, 0, 1, 0, 7, 0, 2, 1, 7, 0, 1, 2]);
 /// ```
 pub fn neighbour_apply(n: usize, width: usize, blocks: &mut [u8], bits: &[u8], log: &mut [u16]) -> Result<usize, Refusal> {
     moved(ffi::lomuveran_neighbour_apply, n, width, blocks, bits, log)
@@ -161,7 +162,7 @@ pub fn neighbour_apply(n: usize, width: usize, blocks: &mut [u8], bits: &[u8], l
 /// [`apply_inverse`] in the neighbour wiring.
 ///
 /// ```
-/// let (mut blocks, mut log) = (*b"cab", [0; 9]);
+/// let (mut blocks, mut log) = (*b"cab", [0; 12]);
 /// assert_eq!(lomuveran::neighbour_apply_inverse(3, 1, &mut blocks, &[1, 1, 0], &mut log), Ok(3));
 /// assert_eq!(&blocks, b"abc");
 /// ```

@@ -72,14 +72,14 @@ impl NeighbourSetting {
 
     /// Mixes the blocks, in place, and gives the log. Questions 2, 3.
     pub fn apply(&self, width: usize, blocks: &mut [u8]) -> Result<Vec<Entry>, Refusal> {
-        let mut log = vec![[0; 3]; self.bits.len()];
+        let mut log = vec![Entry::default(); self.bits.len()];
         calls::neighbour_apply(self.places, width, blocks, &self.bits, log.as_flattened_mut())?;
         Ok(log)
     }
 
     /// Puts the blocks back, in place, and gives the log. Questions 2, 3.
     pub fn apply_inverse(&self, width: usize, blocks: &mut [u8]) -> Result<Vec<Entry>, Refusal> {
-        let mut log = vec![[0; 3]; self.bits.len()];
+        let mut log = vec![Entry::default(); self.bits.len()];
         calls::neighbour_apply_inverse(self.places, width, blocks, &self.bits, log.as_flattened_mut())?;
         Ok(log)
     }

@@ -1,4 +1,4 @@
-use crate::{ffi, Refusal, Setting, MAX_LISTED, MAX_PLACES};
+use crate::{ffi, Entry, Refusal, Setting, MAX_LISTED, MAX_PLACES};
 
 /// A permutation of at most 1,024 places (an order): entry i is the place to which the block at place i goes.
 ///
@@ -74,7 +74,8 @@ impl Permutation {
         // more places are refused before their buffers are looked at
         let places = n.min(MAX_LISTED);
         let (mut entries, mut bits) = (vec![0; places], vec![0; crate::switches(places)?]);
-        crate::ranked_order(n, r, &mut entries, &mut bits, &mut vec![0; 3 * crate::entries(places)?])?;
+        let mut log = vec![Entry::default(); crate::entries(places)?];
+        crate::ranked_order(n, r, &mut entries, &mut bits, log.as_flattened_mut())?;
         let fixed = Permutation::fixed_of(&entries).expect("a listed order is a permutation");
         Ok((Permutation { entries, fixed }, Setting::from_bits(n, &bits).expect("its bits are a setting")))
     }

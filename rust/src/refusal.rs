@@ -23,7 +23,7 @@ impl Refusal {
             2 => "the block width is not 1 to 256 bytes (for a gauge's report: not 6)",
             3 => "the blocks do not fill exactly n × width bytes",
             4 => "there are not as many bit bytes as switches",
-            5 => "the log has less than 3 words for an entry due",
+            5 => "the log has less than 4 words for an entry due",
             6 => "an entry is not below n, or is like an earlier one",
             7 => "a bit byte is neither 0 nor 1",
             8 => "the input ends before the number's next byte",

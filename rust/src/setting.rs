@@ -1,8 +1,9 @@
 use crate::{calls, NeighbourSetting, Permutation, Refusal, MAX_SHEET, MAX_SWITCHES};
 use std::fmt;
 
-/// An entry of a log: its kind and two numbers.
-pub type Entry = [u16; 3];
+/// An entry of a log. Of set: its kind, 1 to 6, the first place of a network, its number of places, and where in the setting its
+/// first bit stands. Of mix and return: 7, the lower and the upper place of a switch, and where its bit stands.
+pub type Entry = [u16; 4];
 
 /// Set of a permutation by the call of a wiring: the bits and the log.
 pub(crate) fn set_by(
@@ -12,7 +13,7 @@ pub(crate) fn set_by(
     const NEVER: &str = "a permutation is never refused";
     let places = order.entries().len();
     let mut bits = vec![0; calls::switches(places).expect(NEVER)];
-    let mut log = vec![[0; 3]; calls::entries(places).expect(NEVER)];
+    let mut log = vec![Entry::default(); calls::entries(places).expect(NEVER)];
     call(order.entries(), &mut bits, log.as_flattened_mut()).expect(NEVER);
     (bits, log)
 }
@@ -63,7 +64,7 @@ impl Setting {
     ///
     /// let (setting, log) = Setting::control_bits_logged(&Permutation::from_list(&[1, 0]).unwrap());
     /// assert_eq!(setting.bits(), [1]);
-    /// assert_eq!(log, [[5, 0, 2], [6, 0, 2]]);
+    /// assert_eq!(log, [[5, 0, 2, 0], [6, 0, 2, 0]]);
     /// ```
     pub fn control_bits_logged(order: &Permutation) -> (Setting, Vec<Entry>) {
         let (bits, log) = set_by(calls::control_bits, order);
@@ -85,14 +86,14 @@ impl Setting {
 
     /// Mixes the blocks, in place, and gives the log. Questions 2, 3.
     pub fn apply(&self, width: usize, blocks: &mut [u8]) -> Result<Vec<Entry>, Refusal> {
-        let mut log = vec![[0; 3]; self.bits.len()];
+        let mut log = vec![Entry::default(); self.bits.len()];
         calls::apply(self.places, width, blocks, &self.bits, log.as_flattened_mut())?;
         Ok(log)
     }
 
     /// Puts the blocks back, in place, and gives the log. Questions 2, 3.
     pub fn apply_inverse(&self, width: usize, blocks: &mut [u8]) -> Result<Vec<Entry>, Refusal> {
-        let mut log = vec![[0; 3]; self.bits.len()];
+        let mut log = vec![Entry::default(); self.bits.len()];
         calls::apply_inverse(self.places, width, blocks, &self.bits, log.as_flattened_mut())?;
         Ok(log)
     }

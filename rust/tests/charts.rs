@@ -74,7 +74,7 @@ fn mixed_and_returned() {
         let must: Vec<_> = gauges.iter().map(|gauge| lomuveran::gauge_report(n, 6, &home, *gauge)).collect();
         for _ in 0..3 {
             let bits: Vec<u8> = plain::switches(Paper, n).iter().map(|_| random.below(2) as u8).collect();
-            let (mut blocks, mut log) = (home.clone(), vec![0; 3 * bits.len()]);
+            let (mut blocks, mut log) = (home.clone(), vec![0; 4 * bits.len()]);
             for call in [lomuveran::apply, lomuveran::apply, lomuveran::apply_inverse, lomuveran::apply_inverse] {
                 call(n, 6, &mut blocks, &bits, &mut log).unwrap();
                 let is: Vec<_> = gauges.iter().map(|gauge| lomuveran::gauge_report(n, 6, &blocks, *gauge)).collect();

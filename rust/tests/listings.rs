@@ -21,7 +21,7 @@ fn rank(tally: &mut Tally, random: &mut Random, listed: &[Vec<u16>], n: usize, r
 
 /// The entries of the order's list, the bits and the words of the log that n places need.
 fn needs(n: usize) -> [usize; 3] {
-    [n, plain::switches(Paper, n).len(), 3 * plain::set_entries(Paper, n).len()]
+    [n, plain::switches(Paper, n).len(), 4 * plain::set_entries(Paper, n).len()]
 }
 
 #[test]
@@ -83,7 +83,7 @@ fn refused_listings() {
         for r in [0, most - 1, most, most + 1, 720, 5040, 65536, 65536 + most - 1, 1 << 32, usize::MAX] {
             for list in [list, list + 2, list.saturating_sub(1), 0] {
                 for bits in [bits, bits + 1, bits.saturating_sub(1)] {
-                    for log in [log, log + 5, log.saturating_sub(1), 0] {
+                    for log in [log, log + 5, log.saturating_sub(1), log / 4 * 3, 0] {
                         rank(&mut tally, &mut random, &listed, n, r, [list, bits, log]);
                     }
                 }

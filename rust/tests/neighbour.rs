@@ -5,7 +5,7 @@ mod common;
 
 use common::plain::{self, Neighbour, Paper, Wiring};
 use common::{all_orders, bytes, calls, seen, Random, Tally};
-use lomuveran::{NeighbourSetting, Permutation, Setting};
+use lomuveran::{Entry, NeighbourSetting, Permutation, Setting};
 
 /// The converter's calls from a wiring, on drawn memory, and what was compared.
 struct Trial {
@@ -37,7 +37,7 @@ impl Trial {
         let blocks = self.random.bytes(n * width);
         let left = [(self.from, given), (self.from.other(), converted)].map(|(wiring, bits)| {
             let mut blocks = blocks.clone();
-            calls(wiring).1[0](n, width, &mut blocks, bits, &mut vec![0; 3 * bits.len()]).unwrap();
+            calls(wiring).1[0](n, width, &mut blocks, bits, &mut vec![0; 4 * bits.len()]).unwrap();
             blocks
         });
         self.tally.same(&left[0], &left[1], (self.from, n, width, given));
@@ -79,16 +79,19 @@ fn values_of_the_request() {
         tally.same(digits(setting.bits()), must.to_string(), order);
         tally.same(digits(&plain::setting(Neighbour, order)), must.to_string(), order);
     }
-    let logs: [(usize, &[[u16; 3]]); 2] =
-        [(3, &[[7, 0, 1], [7, 0, 2], [7, 0, 1]]), (4, &[[7, 0, 1], [7, 0, 2], [7, 1, 3], [7, 0, 1], [7, 2, 3]])];
+    let logs: [(usize, &[Entry]); 2] = [
+        (3, &[[7, 0, 1, 0], [7, 0, 2, 1], [7, 0, 1, 2]]),
+        (4, &[[7, 0, 1, 0], [7, 0, 2, 1], [7, 1, 3, 2], [7, 0, 1, 3], [7, 2, 3, 4]]),
+    ];
     for (n, must) in logs {
         let setting = NeighbourSetting::from_bits(n, &vec![0; must.len()]).unwrap();
         tally.same(&setting.apply(1, &mut vec![0; n]).unwrap()[..], must, n);
     }
     let order = Permutation::from_list(cases[4].0).unwrap();
     let (setting, log) = NeighbourSetting::control_bits_logged(&order);
-    let halved: Vec<_> = log.iter().filter(|entry| entry[0] == 5).map(|entry| (entry[1], entry[2])).collect();
-    tally.same(&halved[..], &[(0, 9), (0, 5), (0, 3), (0, 2), (2, 2), (1, 4), (1, 2), (3, 2)], "the networks of 9 places");
+    let halved: Vec<_> = log.iter().filter(|entry| entry[0] == 5).map(|entry| (entry[1], entry[2], entry[3])).collect();
+    let must = [(0, 9, 0), (0, 5, 4), (0, 3, 6), (0, 2, 7), (2, 2, 9), (1, 4, 12), (1, 2, 13), (3, 2, 14)];
+    tally.same(&halved[..], &must, "the networks of 9 places");
     let mut blocks = *b"abcdefghi";
     setting.apply(1, &mut blocks).unwrap();
     tally.same(&blocks, b"hfbcieadg", "case h");
@@ -169,11 +172,9 @@ fn owned(tally: &mut Tally, random: &mut Random, order: &[u16]) {
     let width = 1 + random.below(9);
     let home = random.bytes(n * width);
     let mut blocks = home.clone();
-    let mut entries: Vec<_> = plain::switches(Neighbour, n).iter().map(|(a, b)| [7, *a as u16, *b as u16]).collect();
-    tally.same(&setting.apply(width, &mut blocks).unwrap(), &entries, order);
+    tally.same(&setting.apply(width, &mut blocks).unwrap(), &plain::move_entries(Neighbour, false, n), order);
     tally.same(&blocks, &plain::scattered(order, width, &home), order);
-    entries.reverse();
-    tally.same(&setting.apply_inverse(width, &mut blocks).unwrap(), &entries, order);
+    tally.same(&setting.apply_inverse(width, &mut blocks).unwrap(), &plain::move_entries(Neighbour, true, n), order);
     tally.same(&blocks, &home, order);
 }
 

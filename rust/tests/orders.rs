@@ -1,10 +1,10 @@
 //! Set, mix and return in both wirings against the second computation: outcomes, bits, blocks and logs, and all that lies around
-//! them.
+//! them. Each log is also replayed from a drawn entry on.
 
 mod common;
 
 use common::plain::{self, Neighbour, Paper, Wiring};
-use common::{all_orders, bytes, calls, seen, words, Random, Tally};
+use common::{all_orders, bytes, calls, replay, seen, words, Random, Tally};
 
 /// The calls of a wiring on drawn memory, and what was compared.
 struct Trial {
@@ -18,8 +18,8 @@ fn trials(seed: u64) -> [Trial; 2] {
 }
 
 impl Trial {
-    /// One call of set. The buffers begin with other contents.
-    fn set(&mut self, order: &[u16], bits: usize, log: usize) {
+    /// One call of set. The buffers begin with other contents. Gives what is in the log.
+    fn set(&mut self, order: &[u16], bits: usize, log: usize) -> Vec<u16> {
         let Trial { wiring, tally, random } = self;
         let must = plain::set(*wiring, order, bits, log);
         let (mut lent_bits, mut lent_log) = (bytes(&random.bytes(bits)), words(&random.words(log)));
@@ -31,6 +31,29 @@ impl Trial {
         lent_bits.check(tally, &bits, of);
         lent_log.check(tally, &log, of);
         lent_order.check(tally, &[], of);
+        lent_log.part().to_vec()
+    }
+
+    /// The log of set replayed from a drawn entry on, over what the own entries before it leave.
+    fn replays_set(&mut self, order: &[u16], log: &[u16]) {
+        let Trial { wiring, tally, random } = self;
+        let own = plain::set_entries(*wiring, order.len());
+        let middle = random.below(own.len() + 1);
+        let mut table = replay::Table::new(*wiring, order);
+        table.run(&own[..middle]);
+        table.run(&log.as_chunks().0[middle..]);
+        tally.same(table.bits, plain::setting(*wiring, order), (*wiring, order, middle));
+    }
+
+    /// The log of mix, or of the return, replayed likewise on the blocks as they were: they end as the call left them.
+    fn replays_move(&mut self, back: bool, n: usize, bits: &[u8], log: &[u16], [was, left]: [&[u8]; 2]) {
+        let Trial { wiring, tally, random } = self;
+        let (width, own) = (was.len() / n.max(1), plain::move_entries(*wiring, back, n));
+        let middle = random.below(own.len() + 1);
+        let mut blocks = was.to_vec();
+        replay::moved(&own[..middle], bits, width, &mut blocks);
+        replay::moved(&log.as_chunks().0[middle..], bits, width, &mut blocks);
+        tally.same(&blocks[..], left, (*wiring, back, n, width, middle));
     }
 
     /// One call of mix and one of return, on the same memory.
@@ -49,22 +72,24 @@ impl Trial {
         }
     }
 
-    /// An order carried whole: set, mixed as the order says, returned.
+    /// An order carried whole: set, mixed as the order says, returned; and each of the logs replayed.
     fn carries(&mut self, order: &[u16], width: usize) {
         let (n, (w, e)) = (order.len(), counts(order.len()));
-        self.set(order, w, 3 * e);
-        let Trial { wiring, tally, random } = self;
-        let of = (*wiring, order);
-        let bits = plain::setting(*wiring, order);
-        tally.same(&plain::carried(*wiring, n, &bits)[..], order, "the second setter");
-        let blocks = random.bytes(n * width);
-        let mut moved = bytes(&blocks);
-        let log = &mut vec![0; 3 * w];
-        let [mix, put_back] = calls(*wiring).1;
-        tally.same(seen(mix(n, width, moved.part(), &bits, log)), Ok(w), of);
-        moved.check(tally, &plain::scattered(order, width, &blocks), of);
-        tally.same(seen(put_back(n, width, moved.part(), &bits, log)), Ok(w), of);
-        moved.check(tally, &blocks, of);
+        let log = self.set(order, w, 4 * e);
+        self.replays_set(order, &log);
+        let of = (self.wiring, order);
+        let bits = plain::setting(self.wiring, order);
+        self.tally.same(&plain::carried(self.wiring, n, &bits)[..], order, "the second setter");
+        let home = self.random.bytes(n * width);
+        let mixed = plain::scattered(order, width, &home);
+        let mut moved = bytes(&home);
+        for (back, call) in calls(self.wiring).1.into_iter().enumerate() {
+            let ends = if back == 1 { [&mixed[..], &home] } else { [&home[..], &mixed] };
+            let log = &mut vec![0; 4 * w];
+            self.tally.same(seen(call(n, width, moved.part(), &bits, log)), Ok(w), of);
+            moved.check(&mut self.tally, ends[1], of);
+            self.replays_move(back == 1, n, &bits, log, ends);
+        }
     }
 
     fn say(&self, what: &str) {
@@ -94,7 +119,7 @@ fn every_setting_of_up_to_six_places() {
             let (w, _) = counts(n);
             for number in 0..1usize << w {
                 let bits: Vec<u8> = (0..w).map(|i| (number >> i & 1) as u8).collect();
-                trial.mix(n, 2, 2 * n, &bits, 3 * w + number % 2);
+                trial.mix(n, 2, 2 * n, &bits, 4 * w + number % 2);
             }
         }
         trial.say("every setting of up to 6 places");
@@ -129,7 +154,7 @@ fn refused_settings() {
                 order.get_mut(at).into_iter().for_each(|x| *x = bad);
             }
             let bits = w.saturating_add_signed([0, 0, 0, 1, -1][random.below(5)]);
-            let log = (3 * e).saturating_add_signed([0, 0, 1, 50, -1][random.below(5)]);
+            let log = [4 * e, 4 * e, 4 * e + 1, 4 * e + 50, (4 * e).saturating_sub(1), 3 * e][random.below(6)];
             trial.set(&order, bits, log);
         }
         trial.tally.say_questions(&format!("outcomes and buffers of set, {:?} wiring", trial.wiring), &[0, 1, 4, 5, 6]);
@@ -151,7 +176,7 @@ fn refused_mixings() {
             bits.resize(w.saturating_add_signed([0, 0, 0, 1, -1][random.below(5)]), 0);
             let width = [1, 2, 3, 7, 8, 16, 33, 256, 0, 257][random.below(10)];
             let filled = (n.min(1100) * width).saturating_add_signed([0, 0, 0, 1, -1][random.below(5)]);
-            let log = (3 * w).saturating_add_signed([0, 0, 1, 50, -1][random.below(5)]);
+            let log = [4 * w, 4 * w, 4 * w + 1, 4 * w + 50, (4 * w).saturating_sub(1), 3 * w][random.below(6)];
             trial.mix(n, width, filled, &bits, log);
         }
         for n in [usize::MAX, usize::MAX / 2 + 1, 1 << 32, 1025] {

@@ -64,21 +64,23 @@ static void mixing(void) {
     static const char setting[22] = "000100011110101011100";
     static const uint8_t sheet[6] = {0x01, 0x09, 0x88, 0x2f, 0x1d, 0xee};
     uint8_t bits[22], read[22], out[6], blocks[11] = "abcdefghi*";
-    uint16_t log[3 * 56 + 1];
+    uint16_t log[4 * 56 + 1];
     size_t i;
     memset(bits, 0xee, sizeof bits);
     memset(read, 0xee, sizeof read);
     memset(out, 0xee, sizeof out);
     memset(log, 0xee, sizeof log);
-    ANSWER(of_set(order, 9, bits, 21, log, 168), 0, 0, 56);
+    ANSWER(of_set(order, 9, bits, 21, log, 224), 0, 0, 56);
     for (i = 0; i < 21; i++) SAME(bits[i] + (size_t)'0', (size_t)setting[i]);
     SAME(bits[21], 0xee);
-    SAME(log[168], 0xeeee);
-    SAME(log[0] == 1 && log[1] == 0 && log[2] == 9, 1);
-    ANSWER(of_mix[0](9, 1, blocks, 9, bits, 21, log, 63), 0, 0, 21);
+    SAME(log[224], 0xeeee);
+    SAME(log[0] == 1 && log[1] == 0 && log[2] == 9 && log[3] == 0, 1);
+    ANSWER(of_mix[0](9, 1, blocks, 9, bits, 21, log, 84), 0, 0, 21);
     alike(blocks, "hfbcieadg*", 11, "mixed", __LINE__);
     SAME(log[0] == 7 && log[1] == 0 && log[2] == 5, 1);
-    ANSWER(of_mix[1](9, 1, blocks, 9, bits, 21, log, 63), 0, 0, 21);
+    for (i = 0; i < 21; i++) SAME(log[4 * i + 3], i);
+    ANSWER(of_mix[1](9, 1, blocks, 9, bits, 21, log, 84), 0, 0, 21);
+    for (i = 0; i < 21; i++) SAME(log[4 * i + 3], 20 - i);
     alike(blocks, "abcdefghi*", 11, "returned", __LINE__);
     ANSWER(of_write(9, bits, 21, out, 6), 0, 0, 5);
     ALIKE(out, sheet);
@@ -91,6 +93,25 @@ static void mixing(void) {
     SAME(of_number(out, 3, 2).value + of_number(out, 3, 2).next, 0);
 }
 
+/* the logs of three places: the network of two has its only bit at 1 */
+static void logs(void) {
+    static const uint16_t order[3] = {1, 2, 0};
+    static const uint16_t of_three[45] = {1, 0, 3, 0, 2, 0, 3, 0, 3, 0, 3, 0, 1, 0, 3, 0, 2, 0, 3, 0, 3, 0, 3, 0,
+                                          4, 0, 3, 0, 5, 0, 3, 0, 5, 0, 2, 1, 6, 0, 2, 1, 6, 0, 3, 0, 0xeeee};
+    static const uint16_t mixed[13] = {7, 0, 2, 0, 7, 0, 1, 1, 7, 0, 2, 2, 0xeeee};
+    static const uint16_t returned[13] = {7, 0, 2, 2, 7, 0, 1, 1, 7, 0, 2, 0, 0xeeee};
+    uint8_t bits[3], blocks[3] = {0};
+    uint16_t log[45], moves[13];
+    memset(log, 0xee, sizeof log);
+    memset(moves, 0xee, sizeof moves);
+    ANSWER(of_set(order, 3, bits, 3, log, 44), 0, 0, 11);
+    ALIKE(log, of_three);
+    ANSWER(of_mix[0](3, 1, blocks, 3, bits, 3, moves, 12), 0, 0, 3);
+    ALIKE(moves, mixed);
+    ANSWER(of_mix[1](3, 1, blocks, 3, bits, 3, moves, 12), 0, 0, 3);
+    ALIKE(moves, returned);
+}
+
 /* the refusals of these calls: the Rust tests ask them on many inputs */
 static void refusals(void) {
     static const uint16_t twice[2] = {0, 0};
@@ -99,13 +120,14 @@ static void refusals(void) {
     static const uint8_t one[3] = {1, 3, 0x0e}, surplus[3] = {1, 0, 0}, longer[4] = {1, 3, 0x86, 0};
     uint8_t bits[3] = {9, 9, 9}, blocks[2] = {1, 2};
     static const uint8_t kept[3] = {9, 9, 9}, still[2] = {1, 2}, set[1] = {1}, two[1] = {2};
-    uint16_t log[6] = {0}, out[4] = {9, 9, 9, 9};
-    ANSWER(lomuveran_control_bits(twice, 2, bits, 1, log, 6), LOMUVERAN_ENTRY, 1, 0);
-    ANSWER(lomuveran_control_bits(twice, 2, bits, 2, log, 6), LOMUVERAN_BIT_COUNT, 0, 0);
-    ANSWER(lomuveran_control_bits(twice, 2, bits, 1, log, 5), LOMUVERAN_LOG, 0, 0);
-    ANSWER(lomuveran_apply(2, 0, blocks, 0, set, 1, log, 6), LOMUVERAN_WIDTH, 0, 0);
-    ANSWER(lomuveran_apply(2, 2, blocks, 2, set, 1, log, 6), LOMUVERAN_BLOCKS, 0, 0);
-    ANSWER(lomuveran_apply_inverse(2, 1, blocks, 2, two, 1, log, 6), LOMUVERAN_BIT, 0, 0);
+    uint16_t log[8] = {0}, out[4] = {9, 9, 9, 9};
+    ANSWER(lomuveran_control_bits(twice, 2, bits, 1, log, 8), LOMUVERAN_ENTRY, 1, 0);
+    ANSWER(lomuveran_control_bits(twice, 2, bits, 2, log, 8), LOMUVERAN_BIT_COUNT, 0, 0);
+    ANSWER(lomuveran_control_bits(twice, 2, bits, 1, log, 7), LOMUVERAN_LOG, 0, 0);
+    ANSWER(lomuveran_apply(2, 1, blocks, 2, two, 1, log, 3), LOMUVERAN_LOG, 0, 0);
+    ANSWER(lomuveran_apply(2, 0, blocks, 0, set, 1, log, 4), LOMUVERAN_WIDTH, 0, 0);
+    ANSWER(lomuveran_apply(2, 2, blocks, 2, set, 1, log, 4), LOMUVERAN_BLOCKS, 0, 0);
+    ANSWER(lomuveran_apply_inverse(2, 1, blocks, 2, two, 1, log, 4), LOMUVERAN_BIT, 0, 0);
     ANSWER(lomuveran_read_sheet(one, 3, bits, 3), LOMUVERAN_FILL, 2, 0);
     ANSWER(lomuveran_read_sheet(surplus, 3, bits, 3), LOMUVERAN_SURPLUS, 2, 0);
     ANSWER(lomuveran_read_sheet(longer, 4, bits, 3), LOMUVERAN_NUMBER, 2, 0);
@@ -182,13 +204,13 @@ static void listing(void) {
     size_t n, r, w, words;
     for (n = 0; n <= LOMUVERAN_MAX_LISTED; n++) {
         w = of_count[0](n).count;
-        words = 3 * of_count[1](n).count;
+        words = 4 * of_count[1](n).count;
         for (r = 0; r < orders[n]; r++) {
             memset(&is, 0xee, sizeof is);
             must = is;
-            ANSWER(of_rank(n, r, is.order, n + r % 2, is.bits, w, is.log, words + r % 2), 0, 0, words / 3);
+            ANSWER(of_rank(n, r, is.order, n + r % 2, is.bits, w, is.log, words + r % 2), 0, 0, words / 4);
             memcpy(must.order, is.order, 2 * n);
-            ANSWER(of_set(is.order, n, must.bits, w, must.log, words), 0, 0, words / 3); /* so it is a permutation */
+            ANSWER(of_set(is.order, n, must.bits, w, must.log, words), 0, 0, words / 4); /* so it is a permutation */
             alike(&is, &must, sizeof is, "a listed order and all around it", __LINE__);
             if (r > 0) SAME(before(last, is.order, n), 1);
             memcpy(last, is.order, sizeof last);
@@ -199,7 +221,7 @@ static void listing(void) {
 /* good and bad numbers for each question, all with all: the first no counts. No number is taken by its low bits */
 static void not_listed(void) {
     static const size_t ns[4] = {3, 7, 1025, MOST}, rs[4] = {5, 6, 65536, MOST};
-    static const size_t lens[4] = {3, 7, 2, 0}, counts[4] = {3, 2, 4, 14}, rooms[4] = {33, 150, 32, 0};
+    static const size_t lens[4] = {3, 7, 2, 0}, counts[4] = {3, 2, 4, 14}, rooms[4] = {44, 150, 43, 33};
     struct lent is, was;
     size_t i, n, r, len, count, room, number;
     memset(&was, 0xee, sizeof was);
@@ -209,7 +231,7 @@ static void not_listed(void) {
                  : r != 5     ? LOMUVERAN_PLACES
                  : len < 3    ? LOMUVERAN_OUTPUT
                  : count != 3 ? LOMUVERAN_BIT_COUNT
-                 : room < 33  ? LOMUVERAN_LOG
+                 : room < 44  ? LOMUVERAN_LOG
                               : LOMUVERAN_ACCEPTED;
         is = was;
         ANSWER(of_rank(n, r, is.order, len, is.bits, count, is.log, room), number, 0, number ? 0 : 11);
@@ -358,6 +380,7 @@ int main(void) {
     size_t i;
     layout();
     mixing();
+    logs();
     refusals();
     charts();
     listing();

@@ -37,7 +37,7 @@ static size_t from_digits(uint8_t *bits, const char *digits) {
 
 static void house_settings(void) {
     uint8_t is[22], must[22];
-    uint16_t log[3 * 56 + 1];
+    uint16_t log[4 * 56 + 1];
     size_t c, entries, w;
     for (c = 0; c < sizeof cases / sizeof *cases; c++) {
         memset(is, 0xee, sizeof is);
@@ -45,20 +45,20 @@ static void house_settings(void) {
         memset(log, 0xee, sizeof log);
         w = from_digits(must, cases[c].bits);
         entries = lomuveran_entries(cases[c].n).count;
-        ANSWER(of_set(cases[c].order, cases[c].n, is, w, log, 3 * entries), 0, 0, entries);
+        ANSWER(of_set(cases[c].order, cases[c].n, is, w, log, 4 * entries), 0, 0, entries);
         ALIKE(is, must);
-        SAME(log[3 * entries], 0xeeee);
+        SAME(log[4 * entries], 0xeeee);
     }
 }
 
-/* the networks of nine places, as the setter's entries of kind 5 name them */
+/* the networks of nine places, and where their bits begin: each entry of the setter names one, those of kind 5 each in its turn */
 static void networks(const uint16_t *log, size_t entries) {
-    static const uint16_t must[8][2] = {{0, 9}, {0, 5}, {0, 3}, {0, 2}, {2, 2}, {1, 4}, {1, 2}, {3, 2}};
-    size_t e, met = 0;
+    static const uint16_t must[8][3] = {{0, 9, 0}, {0, 5, 4}, {0, 3, 6}, {0, 2, 7}, {2, 2, 9}, {1, 4, 12}, {1, 2, 13}, {3, 2, 14}};
+    size_t e, k, met = 0;
     for (e = 0; e < entries; e++) {
-        if (log[3 * e] != 5) continue;
-        SAME(met < 8 && log[3 * e + 1] == must[met][0] && log[3 * e + 2] == must[met][1], 1);
-        met++;
+        for (k = 0; k < 8 && memcmp(log + 4 * e + 1, must[k], sizeof must[k]) != 0;) k++;
+        SAME(k < 8, 1);
+        if (log[4 * e] == 5) SAME(k, met++);
     }
     SAME(met, 8);
 }
@@ -66,15 +66,15 @@ static void networks(const uint16_t *log, size_t entries) {
 static void nine_places(void) {
     static const char paper[] = "000100011110101011100";
     uint8_t bits[21], back[22], out[22], must[22], blocks[11] = "abcdefghi*";
-    uint16_t log[3 * 56];
+    uint16_t log[4 * 56];
     memset(out, 0xee, sizeof out);
     memset(back, 0xee, sizeof back);
     memset(must, 0xee, sizeof must);
-    ANSWER(of_set(cases[LAST].order, 9, bits, 21, log, 168), 0, 0, 56);
+    ANSWER(of_set(cases[LAST].order, 9, bits, 21, log, 224), 0, 0, 56);
     networks(log, 56);
-    ANSWER(of_mix[1](9, 1, blocks, 9, bits, 21, log, 63), 0, 0, 21);
+    ANSWER(of_mix[1](9, 1, blocks, 9, bits, 21, log, 84), 0, 0, 21);
     alike(blocks, "hfbcieadg*", 11, "mixed", __LINE__);
-    ANSWER(of_return(9, 1, blocks, 9, bits, 21, log, 63), 0, 0, 21);
+    ANSWER(of_return(9, 1, blocks, 9, bits, 21, log, 84), 0, 0, 21);
     alike(blocks, "abcdefghi*", 11, "returned", __LINE__);
     ANSWER(of_convert[1](9, bits, 21, out, 21), 0, 0, 0);
     from_digits(must, paper);
@@ -86,19 +86,19 @@ static void nine_places(void) {
 }
 
 static void logs(void) {
-    static const uint16_t three[10] = {7, 0, 1, 7, 0, 2, 7, 0, 1, 0xeeee};
-    static const uint16_t four[16] = {7, 0, 1, 7, 0, 2, 7, 1, 3, 7, 0, 1, 7, 2, 3, 0xeeee};
-    static const uint16_t four_back[16] = {7, 2, 3, 7, 0, 1, 7, 1, 3, 7, 0, 2, 7, 0, 1, 0xeeee};
+    static const uint16_t three[13] = {7, 0, 1, 0, 7, 0, 2, 1, 7, 0, 1, 2, 0xeeee};
+    static const uint16_t four[21] = {7, 0, 1, 0, 7, 0, 2, 1, 7, 1, 3, 2, 7, 0, 1, 3, 7, 2, 3, 4, 0xeeee};
+    static const uint16_t four_back[21] = {7, 2, 3, 4, 7, 0, 1, 3, 7, 1, 3, 2, 7, 0, 2, 1, 7, 0, 1, 0, 0xeeee};
     static const uint8_t bits[5] = {0};
     uint8_t blocks[4] = {0};
-    uint16_t log[10], longer[16];
+    uint16_t log[13], longer[21];
     memset(log, 0xee, sizeof log);
     memset(longer, 0xee, sizeof longer);
-    ANSWER(of_mix[1](3, 1, blocks, 3, bits, 3, log, 10), 0, 0, 3);
+    ANSWER(of_mix[1](3, 1, blocks, 3, bits, 3, log, 13), 0, 0, 3);
     ALIKE(log, three);
-    ANSWER(of_mix[1](4, 1, blocks, 4, bits, 5, longer, 16), 0, 0, 5);
+    ANSWER(of_mix[1](4, 1, blocks, 4, bits, 5, longer, 21), 0, 0, 5);
     ALIKE(longer, four);
-    ANSWER(of_return(4, 1, blocks, 4, bits, 5, longer, 16), 0, 0, 5);
+    ANSWER(of_return(4, 1, blocks, 4, bits, 5, longer, 21), 0, 0, 5);
     ALIKE(longer, four_back);
 }
 
@@ -106,7 +106,7 @@ static void logs(void) {
 
 static int comes_back(int from, size_t n, size_t w, size_t number) {
     uint8_t given[12], out[12], back[12], here[7] = "abcdef", there[7] = "abcdef";
-    uint16_t log[33];
+    uint16_t log[44];
     size_t i;
     memset(given, 0xee, sizeof given);
     memset(out, 0xee, sizeof out);
@@ -115,8 +115,8 @@ static int comes_back(int from, size_t n, size_t w, size_t number) {
     ANSWER(of_convert[from](n, given, w, out, w), 0, 0, 0);
     ANSWER(of_convert[!from](n, out, w, back, w), 0, 0, 0);
     for (i = w; i < 12; i++) SAME(out[i] == 0xee && back[i] == 0xee, 1);
-    ANSWER(of_mix[from](n, 1, here, n, given, w, log, 3 * w), 0, 0, w);
-    ANSWER(of_mix[!from](n, 1, there, n, out, w, log, 3 * w), 0, 0, w);
+    ANSWER(of_mix[from](n, 1, here, n, given, w, log, 4 * w), 0, 0, w);
+    ANSWER(of_mix[!from](n, 1, there, n, out, w, log, 4 * w), 0, 0, w);
     ALIKE(here, there);
     return memcmp(given, back, sizeof given) == 0;
 }
@@ -164,15 +164,16 @@ static void no_setting(void) {
     static const uint16_t twice[3] = {1, 2, 1};
     static const uint8_t kept[4] = {9, 9, 9, 9};
     uint8_t bits[4] = {9, 9, 9, 9};
-    uint16_t log[33], was[33];
+    uint16_t log[44], was[44];
     memset(log, 0xee, sizeof log);
     memset(was, 0xee, sizeof was);
     ANSWER(of_set(many, 1025, bits, 4, log, 0), LOMUVERAN_TOO_MANY_PLACES, 0, 0);
-    ANSWER(of_set(twice, 3, bits, 4, log, 32), LOMUVERAN_BIT_COUNT, 0, 0);
-    ANSWER(of_set(twice, 3, bits, 2, log, 33), LOMUVERAN_BIT_COUNT, 0, 0);
-    ANSWER(of_set(twice, 3, bits, 3, log, 32), LOMUVERAN_LOG, 0, 0);
-    ANSWER(of_set(twice, 3, bits, 3, log, 33), LOMUVERAN_ENTRY, 2, 0);
-    ANSWER(of_set(twice, 2, bits, 1, log, 33), LOMUVERAN_ENTRY, 1, 0);
+    ANSWER(of_set(twice, 3, bits, 4, log, 43), LOMUVERAN_BIT_COUNT, 0, 0);
+    ANSWER(of_set(twice, 3, bits, 2, log, 44), LOMUVERAN_BIT_COUNT, 0, 0);
+    ANSWER(of_set(twice, 3, bits, 3, log, 33), LOMUVERAN_LOG, 0, 0);
+    ANSWER(of_set(twice, 3, bits, 3, log, 43), LOMUVERAN_LOG, 0, 0);
+    ANSWER(of_set(twice, 3, bits, 3, log, 44), LOMUVERAN_ENTRY, 2, 0);
+    ANSWER(of_set(twice, 2, bits, 1, log, 44), LOMUVERAN_ENTRY, 1, 0);
     ALIKE(bits, kept);
     ALIKE(log, was);
 }
@@ -180,17 +181,18 @@ static void no_setting(void) {
 static void no_move(moving *move) {
     static const uint8_t bad[4] = {1, 2, 3, 0}, kept[6] = {1, 2, 3, 4, 5, 6};
     uint8_t blocks[6] = {1, 2, 3, 4, 5, 6};
-    uint16_t log[9], was[9];
+    uint16_t log[12], was[12];
     memset(log, 0xee, sizeof log);
     memset(was, 0xee, sizeof was);
-    ANSWER(move(1025, 0, blocks, 5, bad, 4, log, 8), LOMUVERAN_TOO_MANY_PLACES, 0, 0);
-    ANSWER(move(MOST, 1, blocks, 6, bad, 3, log, 9), LOMUVERAN_TOO_MANY_PLACES, 0, 0);
-    ANSWER(move(3, 0, blocks, 5, bad, 4, log, 8), LOMUVERAN_WIDTH, 0, 0);
-    ANSWER(move(3, 257, blocks, 6, bad, 4, log, 8), LOMUVERAN_WIDTH, 0, 0);
-    ANSWER(move(3, 2, blocks, 5, bad, 4, log, 8), LOMUVERAN_BLOCKS, 0, 0);
-    ANSWER(move(3, 2, blocks, 6, bad, 4, log, 8), LOMUVERAN_BIT_COUNT, 0, 0);
-    ANSWER(move(3, 2, blocks, 6, bad, 3, log, 8), LOMUVERAN_LOG, 0, 0);
-    ANSWER(move(3, 2, blocks, 6, bad, 3, log, 9), LOMUVERAN_BIT, 1, 0);
+    ANSWER(move(1025, 0, blocks, 5, bad, 4, log, 11), LOMUVERAN_TOO_MANY_PLACES, 0, 0);
+    ANSWER(move(MOST, 1, blocks, 6, bad, 3, log, 12), LOMUVERAN_TOO_MANY_PLACES, 0, 0);
+    ANSWER(move(3, 0, blocks, 5, bad, 4, log, 11), LOMUVERAN_WIDTH, 0, 0);
+    ANSWER(move(3, 257, blocks, 6, bad, 4, log, 11), LOMUVERAN_WIDTH, 0, 0);
+    ANSWER(move(3, 2, blocks, 5, bad, 4, log, 11), LOMUVERAN_BLOCKS, 0, 0);
+    ANSWER(move(3, 2, blocks, 6, bad, 4, log, 11), LOMUVERAN_BIT_COUNT, 0, 0);
+    ANSWER(move(3, 2, blocks, 6, bad, 3, log, 9), LOMUVERAN_LOG, 0, 0);
+    ANSWER(move(3, 2, blocks, 6, bad, 3, log, 11), LOMUVERAN_LOG, 0, 0);
+    ANSWER(move(3, 2, blocks, 6, bad, 3, log, 12), LOMUVERAN_BIT, 1, 0);
     ALIKE(blocks, kept);
     ALIKE(log, was);
 }

@@ -21,6 +21,8 @@ static const struct wiring {
     {lomuveran_neighbour_control_bits, lomuveran_neighbour_apply, lomuveran_neighbour_apply_inverse, lomuveran_to_paper},
 };
 
+enum { ENTRY = 4 }; // words of an entry
+
 static uint64_t state;
 static size_t drawn(size_t below) {
     state = state * 6364136223846793005u + 1442695040888963407u;
@@ -53,8 +55,8 @@ __attribute__((noinline)) void trace_ends(void) { __asm__ volatile(""); }
 static size_t calls, asked, wrong, in_log, in_answer; // asked: calls in which there is something secret to decide on
 
 static void one(const struct wiring *calls_of, char op, size_t n, size_t width, size_t seed) {
-    size_t w = switches(n), words = 3 * (op == 's' ? entries(n) : w);
-    uint16_t *order = room(2 * n), *kept = room(2 * n), *log = room(2 * words), *log2 = room(6 * w);
+    size_t w = switches(n), words = ENTRY * (op == 's' ? entries(n) : w);
+    uint16_t *order = room(2 * n), *kept = room(2 * n), *log = room(2 * words), *log2 = room(2 * ENTRY * w);
     uint8_t *blocks = room(n * width), *was = room(n * width), *bits = room(w);
     lomuveran_answer r;
     state = seed;
@@ -76,10 +78,10 @@ static void one(const struct wiring *calls_of, char op, size_t n, size_t width, 
     trace_ends();
     in_log += depends(log, 2 * words), in_answer += depends(&r, sizeof r);
     show(order, 2 * n), show(blocks, n * width), show(bits, w);
-    wrong += r.number != 0 || 3 * r.count != words;
+    wrong += r.number != 0 || ENTRY * r.count != words;
     // the other way round, or the mix that was set, gives what it must
-    if (op == 'm') calls_of->back(n, width, blocks, n * width, bits, w, log2, 3 * w);
-    else calls_of->mix(n, width, blocks, n * width, bits, w, log2, 3 * w);
+    if (op == 'm') calls_of->back(n, width, blocks, n * width, bits, w, log2, ENTRY * w);
+    else calls_of->mix(n, width, blocks, n * width, bits, w, log2, ENTRY * w);
     for (size_t i = 0; i < n; i++) wrong += memcmp(blocks + (op == 's' ? kept[i] : i) * width, was + i * width, width) != 0;
     calls++, asked += op == 's' ? n > 0 : w > 0;
     free(order), free(kept), free(log), free(log2), free(blocks), free(was), free(bits);
@@ -89,7 +91,7 @@ static void one(const struct wiring *calls_of, char op, size_t n, size_t width, 
 static void convert(const struct wiring *from, const struct wiring *to, size_t n, size_t seed) {
     size_t w = switches(n);
     uint8_t *given = room(w), *out = room(w);
-    uint16_t *here = room(2 * n), *there = room(2 * n), *log = room(6 * w);
+    uint16_t *here = room(2 * n), *there = room(2 * n), *log = room(2 * ENTRY * w);
     state = seed;
     for (size_t i = 0; i < w; i++) given[i] = (uint8_t)(seed > 1 ? drawn(2) : seed);
     hide(given, w);
@@ -101,8 +103,8 @@ static void convert(const struct wiring *from, const struct wiring *to, size_t n
     show(given, w);
     wrong += r.number != 0 || r.count != 0;
     for (size_t i = 0; i < n; i++) here[i] = there[i] = (uint16_t)i;
-    from->mix(n, 2, (uint8_t *)here, 2 * n, given, w, log, 3 * w);
-    to->mix(n, 2, (uint8_t *)there, 2 * n, out, w, log, 3 * w);
+    from->mix(n, 2, (uint8_t *)here, 2 * n, given, w, log, ENTRY * w);
+    to->mix(n, 2, (uint8_t *)there, 2 * n, out, w, log, ENTRY * w);
     wrong += memcmp(here, there, 2 * n) != 0;
     calls++, asked += w > 0;
     free(given), free(out), free(here), free(there), free(log);
@@ -125,8 +127,8 @@ static void chart(size_t n, size_t width, size_t seed) {
 
 // an order of the list by its number, which is found again from the order; its bits carry out the order
 static void rank(size_t n, size_t seed) {
-    size_t w = switches(n), words = 3 * entries(n), orders = 1, found = 0, r;
-    uint16_t *order = room(2 * n), *log = room(2 * words), *log2 = room(6 * w);
+    size_t w = switches(n), words = ENTRY * entries(n), orders = 1, found = 0, r;
+    uint16_t *order = room(2 * n), *log = room(2 * words), *log2 = room(2 * ENTRY * w);
     uint8_t *bits = room(w), *blocks = room(n);
     state = seed;
     for (size_t i = 2; i <= n; i++) orders *= i;
@@ -142,8 +144,8 @@ static void rank(size_t n, size_t seed) {
         blocks[i] = (uint8_t)i, found *= n - i;
         for (size_t j = i + 1; j < n; j++) found += order[j] < order[i];
     }
-    wrong += a.number != 0 || 3 * a.count != words || found != r;
-    lomuveran_apply(n, 1, blocks, n, bits, w, log2, 3 * w);
+    wrong += a.number != 0 || ENTRY * a.count != words || found != r;
+    lomuveran_apply(n, 1, blocks, n, bits, w, log2, ENTRY * w);
     for (size_t i = 0; i < n; i++) wrong += blocks[order[i]] != i;
     calls++, asked++;
     free(order), free(log), free(log2), free(bits), free(blocks);

@@ -1,7 +1,10 @@
 // Controls that the check must catch: the library's mix in the paper's wiring and in the neighbour wiring, its listed order and its
-// converter, with a leak behind them (LEAK: 1 a jump on a bit, or on the order's number, 2 an address from it, 3 a word of the log from
-// it, of the converter its count). Linked with --wrap for each.
+// converter, with a leak behind them (LEAK: 1 a jump on a bit, or on the order's number, 2 an address from it, 3 to 6 the first to
+// the fourth word of an entry of the log from it, 7 the converter's count). Linked with --wrap for each.
 #include "lomuveran.h"
+
+#define LOGGED (LEAK > 2 && LEAK < 7)
+#define WORD ((LEAK + 1) % 4)
 
 static volatile uint8_t table[256], sink;
 
@@ -14,7 +17,7 @@ static volatile uint8_t table[256], sink;
         for (size_t i = 0; i < bit_count; i++) { \
             if (LEAK == 1 && bits[i]) sink = 1; \
             if (LEAK == 2) sink = table[bits[i]]; \
-            if (LEAK == 3) log[3 * i + 1] ^= bits[i]; \
+            if (LOGGED) log[4 * i + WORD] ^= bits[i]; \
         } \
         return r; \
     }
@@ -28,7 +31,7 @@ lomuveran_answer __wrap_lomuveran_to_neighbour(size_t n, const uint8_t *given, s
     for (size_t i = 0; i < given_count; i++) {
         if (LEAK == 1 && given[i]) sink = 1;
         if (LEAK == 2) sink = table[given[i]];
-        if (LEAK == 3) r.count ^= given[i];
+        if (LEAK == 7) r.count ^= given[i];
     }
     return r;
 }
@@ -41,6 +44,6 @@ lomuveran_answer __wrap_lomuveran_ranked_order(size_t n, size_t r, uint16_t *ord
     lomuveran_answer a = __real_lomuveran_ranked_order(n, r, order, order_len, bits, bit_count, log, log_words);
     if (LEAK == 1 && (r & 1)) sink = 1;
     if (LEAK == 2) sink = table[r & 255];
-    if (LEAK == 3 && log_words) log[1] ^= (uint16_t)r;
+    if (LOGGED && log_words) log[WORD] ^= (uint16_t)r;
     return a;
 }

@@ -5,7 +5,7 @@ use mathlib.Core.List.{List, [], reverse}
 use Prim.Native.Nat.{ℕ, _+_, _-_, _*_, _≤_}
 use native.Mathlib.Nat.{zero-add}
 use native.Mathlib.Omega.{arith}
-use lib.ListN.{length, getD}
+use lib.ListN.{length}
 use Rattle.answers.specs.declared.Answer.{Answer}
 use Rattle.answers.specs.Answers.{accepted}
 use Rattle.answers.specs.Questions.{Verdict, allYes, noAt, firstNo}
@@ -14,10 +14,11 @@ use Rattle.answers.specs.Outcomes.{answerOf, logged, settledLogged}
 use Rattle.answers.proofs.Buffers.{overlay-whole}
 use Rattle.answers.proofs.Outcomes.{logged-accepted}
 use Rattle.counts.specs.Counts.{W}
+use Rattle.counts.proofs.Most.{switches-few}
 use Rattle.network.specs.Network.{network}
 use Rattle.network.specs.Move.{forward, backward}
 use Rattle.network.specs.Blocks.{cut, bytesOf, moved, movedBack}
-use Rattle.network.specs.Log.{Entry, words, switches, applyEntries, inverseEntries, runFrom, runApply, runInverse}
+use Rattle.network.specs.Log.{Entry, words, switches, applyEntries, inverseEntries, run}
 use Rattle.network.proofs.Blocks.{length-cut, bytes-cut}
 use Rattle.network.proofs.Run.{run-apply}
 use Rattle.network.proofs.RunBack.{run-inverse}
@@ -25,7 +26,7 @@ use Rattle.network.proofs.Shift.{shifted-none}
 use Rattle.wirings.specs.declared.Topology.{Topology}
 use Rattle.wirings.specs.Nets.{wiringOf, wholeOf, Inside}
 use Rattle.wirings.proofs.Halves.{lawful}
-use Rattle.apply_layers.specs.Ran.{blocksIn, Lent, Ran, bitAt, bitBack, switchesOf}
+use Rattle.apply_layers.specs.Ran.{blocksIn, Lent, Ran, backFrom, switchesOf}
 use Rattle.apply_layers.proofs.Runs.{many}
 use Rattle.apply_questions.specs.Questions.{applyQuestions}
 use Rattle.apply.specs.Calls.{applyCallIn, inverseCallIn}
@@ -38,18 +39,19 @@ turned-away allYes count words b entries l e h = absurd (h (ap (λ a. a .number)
 turned-away (noAt q p) count words b entries l e h = rw e
 
 -- the switches of the whole are all entries
-all-switches : (t : Topology) (n : ℕ) → switchesOf (wholeOf t n) ≡ applyEntries (wiringOf t) n
+all-switches : (t : Topology) (n : ℕ) → switchesOf (wholeOf t n) 0 ≡ applyEntries (wiringOf t) n
 unfolding applyEntries
-all-switches t n = ap (switches (wiringOf t) (network n)) (fun-ext (λ i. let e : i * 1 ≡ i = omega arith in e))
+all-switches t n =
+    ap (λ (place : ℕ → ℕ). switches (wiringOf t) (network n) place 0) (fun-ext (λ i. let e : i * 1 ≡ i = omega arith in e))
 
 -- every question got a yes, and all entries of n places were run: what they leave is `after`
-settles : (n width : ℕ) {b l b′ l′ : List ℕ} {bit : ℕ → ℕ} {es : List Entry} {count : ℕ} {a : Answer} (v : Verdict)
+settles : (n width : ℕ) {b l b′ l′ : List ℕ} {bits : List ℕ} {es : List Entry} {count : ℕ} {a : Answer} (v : Verdict)
     (after : List (List ℕ)) → v ≡ allYes
-    → a ≡ accepted count → count ≡ W n → 1 ≤ width → length b ≡ n * width → length b′ ≡ length b → runFrom [] bit 0 es (cut width n b) ≡
+    → a ≡ accepted count → count ≡ W n → 1 ≤ width → length b ≡ n * width → length b′ ≡ length b → run [] bits es (cut width n b) ≡
     after
-    → Ran width bit es 0 0 b l b′ l′ → logged a b′ l′ ≡ settledLogged v (W n) (bytesOf after) b (words es) l
-settles n width {b} {l} {b′} {l′} {bit} {es} v after asked told all low filled kept is ran =
-    let left : cut width n b′ ≡ runFrom [] bit 0 es (cut width n b) = rw (many n width b low filled) at (ran .blocks) in
+    → Ran width bits es 0 0 b l b′ l′ → logged a b′ l′ ≡ settledLogged v (W n) (bytesOf after) b (words es) l
+settles n width {b} {l} {b′} {l′} {bits} {es} v after asked told all low filled kept is ran =
+    let left : cut width n b′ ≡ run [] bits es (cut width n b) = rw (many n width b low filled) at (ran .blocks) in
     let bytes : bytesOf after ≡ b′ = ap bytesOf (sym (left ∙ is)) ∙ bytes-cut width n b′ (kept ∙ filled) in
     logged-accepted v (W n) (bytesOf after) b (words es) l
     asked (told ∙ ap accepted all)
@@ -85,6 +87,7 @@ module _ (t : Topology) (n width : ℕ) (b bits l : List ℕ) where
               whole = rw all (sym (f .whole));
               enough = omega arith;
               room = omega arith;
+              short = omega (arith, switches-few n (f .places));
               settings = f .settings;
             },
             rw all (record { apart = omega arith; lies = λ i h. omega arith }),
@@ -92,9 +95,9 @@ module _ (t : Topology) (n width : ℕ) (b bits l : List ℕ) where
 
       module _ {b′ l′ : List ℕ} {count : ℕ} {a : Answer} (reports : a ≡ accepted count) (counted : count ≡ 0 + W n)
           (kept : length b′ ≡ length b) where
-        pub apply-settles : Ran width (bitAt bits) (switchesOf (wholeOf t n)) 0 0 b l b′ l′
+        pub apply-settles : Ran width bits (switchesOf (wholeOf t n) 0) 0 0 b l b′ l′
             → logged a b′ l′ ≡ applyCallIn (wiringOf t) n width b bits l
-        unfolding moved runApply
+        unfolding moved
         apply-settles ran =
             let f = fits in
             settles n width verdict (forward [] (wiringOf t) (network n) bits (cut width n b)) well reports (counted ∙ zero-add (W n))
@@ -102,13 +105,13 @@ module _ (t : Topology) (n width : ℕ) (b bits l : List ℕ) where
             (f .whole) kept
             (run-apply [] (lawful t) n bits (cut width n b) (length-cut width n b)) (rw (all-switches t n) at ran)
 
-        pub inverse-settles : Ran width (bitBack bits) (reverse (switchesOf (wholeOf t n))) 0 0 b l b′ l′ → logged a b′ l′ ≡
-            inverseCallIn (wiringOf t) n width b bits l
-        unfolding movedBack runInverse inverseEntries
+        pub inverse-settles : Ran width bits (reverse (switchesOf (wholeOf t n) (backFrom bits 0 (W n)))) 0 0 b l b′ l′
+            → logged a b′ l′ ≡ inverseCallIn (wiringOf t) n width b bits l
+        unfolding movedBack inverseEntries
         inverse-settles ran =
             let f = fits in
+            let all : backFrom bits 0 (W n) ≡ 0 = omega (arith, f .count) in
             settles n width verdict (backward [] (wiringOf t) (network n) bits (cut width n b)) well reports (counted ∙ zero-add (W n))
             (f .low)
             (f .whole) kept
-            (ap (λ c. runFrom [] (λ e. getD bits (c - 1 - e) 0) 0 (inverseEntries (wiringOf t) n) (cut width n b)) (f .count)
-            ∙ run-inverse [] (lawful t) n bits (cut width n b) (length-cut width n b)) (rw (all-switches t n) at ran)
+            (run-inverse [] (lawful t) n bits (cut width n b) (length-cut width n b)) (rw (all, all-switches t n) at ran)

@@ -5,7 +5,7 @@ ghost use mathlib.Core.List.{reverse};
 ghost use Prim.Native.Nat.{_+_};
 ghost use Rattle.counts.specs.Counts.{W};
 ghost use Rattle.wirings.specs.Nets.{netOf, Inside};
-ghost use Rattle.apply_layers.specs.Ran.{blocksIn, Lent, Ran, bitBack, switchesOf};
+ghost use Rattle.apply_layers.specs.Ran.{blocksIn, Lent, Ran, backFrom, switchesOf};
 
 // The network of m places that lie `apart` from each other, whatever its wiring, on the blocks from its first place o on, its entries
 // from number e on: output switches, bottom, top, input switches, each layer last to first. Returns the number of the entry after its
@@ -22,7 +22,8 @@ pub fn run_back(
     e: usize,
 ) -> usize
     requires { ⌜ Lent width o (W m) e (now blocks) (now bits) (now log) × Inside (o + blocksIn width (now blocks)) (netOf t o m apart) ⌝ }
-    ensures { λ r. ⌜ (r ≡ e + W m) × Ran width (bitBack (now (bits .entry))) (reverse (switchesOf (netOf t o m apart))) o e
+    ensures { λ r. ⌜ (r ≡ e + W m)
+        × Ran width (now (bits .entry)) (reverse (switchesOf (netOf t o m apart) (backFrom (now (bits .entry)) e (W m)))) o e
         (now (blocks .entry)) (now (log .entry)) (now (blocks .exit)) (now (log .exit)) ⌝ }
 {
     if m < 2 {

@@ -4,7 +4,7 @@ ghost use mathlib.Core.Path.{_≡_};
 ghost use Prim.Native.Nat.{_+_};
 ghost use Rattle.counts.specs.Counts.{W};
 ghost use Rattle.wirings.specs.Nets.{netOf, Inside};
-ghost use Rattle.apply_layers.specs.Ran.{blocksIn, Lent, Ran, bitAt, switchesOf};
+ghost use Rattle.apply_layers.specs.Ran.{blocksIn, Lent, Ran, switchesOf};
 
 // The network of m places that lie `apart` from each other, whatever its wiring, on the blocks from its first place o on, its entries
 // from number e on: input switches, top, bottom, output switches. The blocks of a half may lie between those of the other, so the two
@@ -22,7 +22,7 @@ pub fn run(
     e: usize,
 ) -> usize
     requires { ⌜ Lent width o (W m) e (now blocks) (now bits) (now log) × Inside (o + blocksIn width (now blocks)) (netOf t o m apart) ⌝ }
-    ensures { λ r. ⌜ (r ≡ e + W m) × Ran width (bitAt (now (bits .entry))) (switchesOf (netOf t o m apart)) o e
+    ensures { λ r. ⌜ (r ≡ e + W m) × Ran width (now (bits .entry)) (switchesOf (netOf t o m apart) e) o e
         (now (blocks .entry)) (now (log .entry)) (now (blocks .exit)) (now (log .exit)) ⌝ }
 {
     if m < 2 {

@@ -6,6 +6,7 @@ use mathlib.Core.List.{List, [], _∷_, _++_, append-assoc}
 use Prim.Native.Nat.{ℕ, zero, suc, _+_, _-_, _*_, _≤_, _<_}
 use native.Mathlib.Nat.{suc-mul, add-mul, one-mul, mul-assoc, mul-le-mul-right}
 use native.Mathlib.Omega.{arith}
+use native.Mathlib.Decide.{decLt}
 use lib.Dec.{eqb}
 use lib.ListN.{length, take, drop, getD, length-append, length-drop, take-append-drop}
 use lib.Seq.{take-suc, take-all, length-take-le, take-at, drop-at}
@@ -148,6 +149,17 @@ module _ {w o c e step gap : ℕ} {b bits l : List ℕ} (lent : Lent w o c e b b
         apart = omega (arith, one-mul w);
         ends = omega (arith, last, lent .whole, add-mul (i * step) gap w, mul-assoc i step w);
       }
+
+  -- a step past the last of them
+  pub past-near : c * step ≤ 2048
+  past-near = go (decLt 0 c)
+    where
+      go : Dec (0 < c) → c * step ≤ 2048
+      go (yes h) =
+          let last : c ≡ suc (c - 1) = omega arith in
+          let more : c * step ≡ (c - 1) * step + step = ap (λ n. n * step) last ∙ suc-mul (c - 1) step in
+          omega (arith, more, pairs .lies (c - 1) (omega arith), pairs .pace, lent .places)
+      go (no h) = let none : c ≡ 0 = omega arith in rw none (omega arith)
 
   pub few-fit : (n : ℕ) → n ≤ blocksIn w b → n * w ≤ length b
   few-fit n h = let x : n * w ≤ blocksIn w b * w = mul-le-mul-right w h in omega (arith, lent .whole)

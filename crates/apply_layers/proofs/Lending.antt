@@ -46,9 +46,9 @@ pub record Sizes (w m step gap e : ℕ) (b bits log : List ℕ) : Type 0 where
   pub bottom : Room w gap b
 
 -- no switch of a network is on a block that it was not lent
-pub below-all : {n : ℕ} (net : Net) → Inside (net .start + n) net → Below n (switchesOf net)
-below-all {n} net I =
-    below-switches (lawful (net .topology)) (sized (net .size)) n (λ i. i * net .apart) (λ i h. omega (arith, I .lies i h))
+pub below-all : {n : ℕ} (net : Net) (p : ℕ) → Inside (net .start + n) net → Below n (switchesOf net p)
+below-all {n} net p I =
+    below-switches (lawful (net .topology)) (sized (net .size)) n (λ i. i * net .apart) p (λ i h. omega (arith, I .lies i h))
 
 module _ {w e : ℕ} {net : Net} {b bits l : List ℕ} (lent : Lent w (net .start) (W (net .size)) e b bits l)
     (I : Inside (net .start + blocksIn w b) net) where
@@ -107,6 +107,7 @@ module _ {w e : ℕ} {net : Net} {b bits l : List ℕ} (lent : Lent w (net .star
             whole = rw is (sym long);
             enough = omega (arith, lent .enough);
             room = omega (arith, lent .room, k .log);
+            short = lent .short;
             settings = lent .settings;
           }
 
@@ -150,14 +151,14 @@ module _ {w e : ℕ} {net : Net} {b bits l : List ℕ} (lent : Lent w (net .star
           )
 
     -- what ran on a half's part has run on all
-    module _ (bit : ℕ → ℕ) {es : List Entry} {e′ : ℕ} {b′ l′ l″ : List ℕ} where
+    module _ {es : List Entry} {e′ : ℕ} {b′ l′ l″ : List ℕ} where
       pub top-ran : {top : Net} → IsHalf net false top → Room w (span (net .size) step) b′ → (x : List ℕ)
           → length x ≡ length (take (span (net .size) step * w) b′) → Below (span (net .size) step) es
-          → Ran w bit es (top .start) e′ (take (span (net .size) step * w) b′) l′ x l″
-          → Ran w bit es (net .start) e′ b′ l′ (x ++ drop (span (net .size) step * w) b′) l″
-      top-ran T room x kept below r = front-ran room (lent .wide) bit x kept below (rw (top-start T) at r)
+          → Ran w bits es (top .start) e′ (take (span (net .size) step * w) b′) l′ x l″
+          → Ran w bits es (net .start) e′ b′ l′ (x ++ drop (span (net .size) step * w) b′) l″
+      top-ran T room x kept below r = front-ran room (lent .wide) bits x kept below (rw (top-start T) at r)
 
       pub bottom-ran : {bottom : Net} → IsHalf net true bottom → Room w gap b′ → (y : List ℕ)
-          → Ran w bit es (bottom .start) e′ (take (length b′ - gap * w) (drop (gap * w) b′)) l′ y l″
-          → Ran w bit (shifted gap es) (net .start) e′ b′ l′ (putMid (gap * w) (length b′ - gap * w) b′ y) l″
-      bottom-ran U room y r = behind-ran room (lent .wide) bit y (rw (half-start S U) at r)
+          → Ran w bits es (bottom .start) e′ (take (length b′ - gap * w) (drop (gap * w) b′)) l′ y l″
+          → Ran w bits (shifted gap es) (net .start) e′ b′ l′ (putMid (gap * w) (length b′ - gap * w) b′ y) l″
+      bottom-ran U room y r = behind-ran room (lent .wide) bits y (rw (half-start S U) at r)

@@ -57,16 +57,16 @@ module _ {w k : ℕ} {b : List ℕ} (room : Room w k b) where
       → length (putMid (k * w) (length b - k * w) b y) ≡ length b
   behind-kept y e = rw (back y, length-append) (omega (arith, e, ap length behind-lent, length-drop (k * w) b, front-long, fits))
 
-  module _ (some : 1 ≤ w) (bit : ℕ → ℕ) {es : List Entry} {o e : ℕ} {l l′ : List ℕ} where
-    pub front-ran : (x : List ℕ) → length x ≡ length (take (k * w) b) → Below k es → Ran w bit es o e (take (k * w) b) l x l′
-        → Ran w bit es o e b l (x ++ drop (k * w) b) l′
+  module _ (some : 1 ≤ w) (bits : List ℕ) {es : List Entry} {o e : ℕ} {l l′ : List ℕ} where
+    pub front-ran : (x : List ℕ) → length x ≡ length (take (k * w) b) → Below k es → Ran w bits es o e (take (k * w) b) l x l′
+        → Ran w bits es o e b l (x ++ drop (k * w) b) l′
     front-ran x kept below r =
         rw (take-append-drop (k * w) b) at
-        (ran-front w k (blocksIn w b - k) some bit (take (k * w) b) x (drop (k * w) b) front-long (kept ∙ front-long) rest-long below r)
+        (ran-front w k (blocksIn w b - k) some bits (take (k * w) b) x (drop (k * w) b) front-long (kept ∙ front-long) rest-long below r)
 
-    pub behind-ran : (y : List ℕ) → Ran w bit es (o + k) e (take (length b - k * w) (drop (k * w) b)) l y l′
-        → Ran w bit (shifted k es) o e b l (putMid (k * w) (length b - k * w) b y) l′
+    pub behind-ran : (y : List ℕ) → Ran w bits es (o + k) e (take (length b - k * w) (drop (k * w) b)) l y l′
+        → Ran w bits (shifted k es) o e b l (putMid (k * w) (length b - k * w) b y) l′
     behind-ran y r =
         let part = rw behind-lent at r in
-        let all = ran-behind w k (blocksIn w b - k) some bit (take (k * w) b) (drop (k * w) b) y front-long rest-long part in
+        let all = ran-behind w k (blocksIn w b - k) some bits (take (k * w) b) (drop (k * w) b) y front-long rest-long part in
         rw (back y) (rw (take-append-drop (k * w) b) at all)

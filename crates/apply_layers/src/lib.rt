@@ -4,7 +4,7 @@
 ghost use mathlib.Core.Path.{_≡_};
 ghost use mathlib.Core.List.{reverse};
 ghost use Prim.Native.Nat.{_+_, _%_};
-ghost use Rattle.apply_layers.specs.Ran.{blocksIn, Lent, Pairs, Ran, bitAt, bitBack, layerOf};
+ghost use Rattle.apply_layers.specs.Ran.{blocksIn, Lent, Pairs, Ran, backFrom, layerOf};
 
 // The first c switches of a layer, first to last, on the blocks from place o on: switch i on the block i steps from the first and on
 // the one a gap further, under bit e + i, logged as entry e + i. Of each block `whole` bytes go in parts of 32, and the `rest`
@@ -24,19 +24,21 @@ pub fn in_parts(
 )
     requires { ⌜ Lent width o c e (now blocks) (now bits) (now log) × Pairs (blocksIn width (now blocks)) step gap c
         × (width ≡ whole + rest) × (whole % 32 ≡ 0) ⌝ }
-    ensures { λ _. ⌜ Ran width (bitAt (now (bits .entry))) (layerOf step gap c) o e (now (blocks .entry)) (now (log .entry))
+    ensures { λ _. ⌜ Ran width (now (bits .entry)) (layerOf step gap e c) o e (now (blocks .entry)) (now (log .entry))
         (now (blocks .exit)) (now (log .exit)) ⌝ }
 {
     let stride = step * width;
     let across = gap * width;
+    let next = entry_log::packed(0, step, step, 1); // how far apart two switches' entries are
+    let mut x = entry_log::packed(7, o, o + gap, e);
     let mut i = 0;
     while i < c {
         let s = bits[e + i];
-        let p = i * step; // the lower place
-        let a = i * stride; // its first byte
+        let a = i * stride; // the first byte of the lower block
         apply_exchange::exchange_whole(blocks, whole, a, across, s);
         apply_exchange::exchange_rest(blocks, rest, a + whole, across, s);
-        entry_log::write_entry(log, e + i, 7, o + p, o + (p + gap));
+        entry_log::write_packed(log, e + i, x);
+        x += next;
         i += 1;
     }
 }
@@ -57,22 +59,25 @@ pub fn in_parts_back(
 )
     requires { ⌜ Lent width o c e (now blocks) (now bits) (now log) × Pairs (blocksIn width (now blocks)) step gap c
         × (width ≡ whole + rest) × (whole % 32 ≡ 0) ⌝ }
-    ensures { λ _. ⌜ Ran width (bitBack (now (bits .entry))) (reverse (layerOf step gap c)) o e (now (blocks .entry))
-        (now (log .entry)) (now (blocks .exit)) (now (log .exit)) ⌝ }
+    ensures { λ _. ⌜ Ran width (now (bits .entry)) (reverse (layerOf step gap (backFrom (now (bits .entry)) e c) c)) o e
+        (now (blocks .entry)) (now (log .entry)) (now (blocks .exit)) (now (log .exit)) ⌝ }
 {
     let stride = step * width;
     let across = gap * width;
     let first = bits.len() - (e + c);
+    let past = c * step; // a step past the last switch's lower place
+    let next = entry_log::packed(0, step, step, 1);
+    let mut x = entry_log::packed(7, o + past, o + (past + gap), first + c);
     let mut i = c;
     let mut to = e;
     while 0 < i {
         i -= 1;
+        x -= next;
         let s = bits[first + i];
-        let p = i * step;
         let a = i * stride;
         apply_exchange::exchange_whole(blocks, whole, a, across, s);
         apply_exchange::exchange_rest(blocks, rest, a + whole, across, s);
-        entry_log::write_entry(log, to, 7, o + p, o + (p + gap));
+        entry_log::write_packed(log, to, x);
         to += 1;
     }
 }

@@ -1,7 +1,7 @@
 // A layer of one switch, as a network of two places has it, in a form that is made for the blocks' width and without a loop: half of
 // all networks are such. The bits and the bytes of the blocks are secret: no branch and no index depends on them.
 ghost use mathlib.Core.List.{reverse};
-ghost use Rattle.apply_layers.specs.Ran.{blocksIn, Lent, Pairs, Ran, bitAt, bitBack, layerOf};
+ghost use Rattle.apply_layers.specs.Ran.{blocksIn, Lent, Pairs, Ran, backFrom, layerOf};
 
 // For mix. The widths are told apart as in `apply_widths`. Public for the crate `apply_forward` only, whose callers have asked their
 // questions before: so it `requires` what they have settled.
@@ -15,7 +15,7 @@ pub fn pair(
     e: usize,
 )
     requires { ⌜ Lent width o 1 e (now blocks) (now bits) (now log) × Pairs (blocksIn width (now blocks)) 1 gap 1 ⌝ }
-    ensures { λ _. ⌜ Ran width (bitAt (now (bits .entry))) (layerOf 1 gap 1) o e (now (blocks .entry)) (now (log .entry))
+    ensures { λ _. ⌜ Ran width (now (bits .entry)) (layerOf 1 gap e 1) o e (now (blocks .entry)) (now (log .entry))
         (now (blocks .exit)) (now (log .exit)) ⌝ }
 {
     match width {
@@ -49,8 +49,8 @@ pub fn pair_back(
     e: usize,
 )
     requires { ⌜ Lent width o 1 e (now blocks) (now bits) (now log) × Pairs (blocksIn width (now blocks)) 1 gap 1 ⌝ }
-    ensures { λ _. ⌜ Ran width (bitBack (now (bits .entry))) (reverse (layerOf 1 gap 1)) o e (now (blocks .entry))
-        (now (log .entry)) (now (blocks .exit)) (now (log .exit)) ⌝ }
+    ensures { λ _. ⌜ Ran width (now (bits .entry)) (reverse (layerOf 1 gap (backFrom (now (bits .entry)) e 1) 1)) o e
+        (now (blocks .entry)) (now (log .entry)) (now (blocks .exit)) (now (log .exit)) ⌝ }
 {
     match width {
         1 => apply_layers::in_parts_back(blocks, width, 0, 1, 1, gap, 1, o, bits, log, e),

@@ -1,7 +1,7 @@
 // A layer of switches, in a form that is made for the blocks' width. The bits and the bytes of the blocks are secret: no branch and no
 // index depends on them.
 ghost use mathlib.Core.List.{reverse};
-ghost use Rattle.apply_layers.specs.Ran.{blocksIn, Lent, Pairs, Ran, bitAt, bitBack, layerOf};
+ghost use Rattle.apply_layers.specs.Ran.{blocksIn, Lent, Pairs, Ran, backFrom, layerOf};
 
 // The layer first to last. Pairs side by side are told apart from pairs at a distance, and in `near` and `far` the commonest widths from
 // each other, only so that the loop is compiled anew for each of them, and widths of whole parts so that it has no rest. Public for the
@@ -18,7 +18,7 @@ pub fn layer(
     e: usize,
 )
     requires { ⌜ Lent width o c e (now blocks) (now bits) (now log) × Pairs (blocksIn width (now blocks)) step gap c ⌝ }
-    ensures { λ _. ⌜ Ran width (bitAt (now (bits .entry))) (layerOf step gap c) o e (now (blocks .entry)) (now (log .entry))
+    ensures { λ _. ⌜ Ran width (now (bits .entry)) (layerOf step gap e c) o e (now (blocks .entry)) (now (log .entry))
         (now (blocks .exit)) (now (log .exit)) ⌝ }
 {
     if step == 1 {
@@ -40,7 +40,7 @@ fn near(
     e: usize,
 )
     requires { ⌜ Lent width o c e (now blocks) (now bits) (now log) × Pairs (blocksIn width (now blocks)) 1 gap c ⌝ }
-    ensures { λ _. ⌜ Ran width (bitAt (now (bits .entry))) (layerOf 1 gap c) o e (now (blocks .entry)) (now (log .entry))
+    ensures { λ _. ⌜ Ran width (now (bits .entry)) (layerOf 1 gap e c) o e (now (blocks .entry)) (now (log .entry))
         (now (blocks .exit)) (now (log .exit)) ⌝ }
 {
     match width {
@@ -76,7 +76,7 @@ fn far(
     e: usize,
 )
     requires { ⌜ Lent width o c e (now blocks) (now bits) (now log) × Pairs (blocksIn width (now blocks)) step gap c ⌝ }
-    ensures { λ _. ⌜ Ran width (bitAt (now (bits .entry))) (layerOf step gap c) o e (now (blocks .entry)) (now (log .entry))
+    ensures { λ _. ⌜ Ran width (now (bits .entry)) (layerOf step gap e c) o e (now (blocks .entry)) (now (log .entry))
         (now (blocks .exit)) (now (log .exit)) ⌝ }
 {
     match width {
@@ -112,8 +112,8 @@ pub fn layer_back(
     e: usize,
 )
     requires { ⌜ Lent width o c e (now blocks) (now bits) (now log) × Pairs (blocksIn width (now blocks)) step gap c ⌝ }
-    ensures { λ _. ⌜ Ran width (bitBack (now (bits .entry))) (reverse (layerOf step gap c)) o e (now (blocks .entry))
-        (now (log .entry)) (now (blocks .exit)) (now (log .exit)) ⌝ }
+    ensures { λ _. ⌜ Ran width (now (bits .entry)) (reverse (layerOf step gap (backFrom (now (bits .entry)) e c) c)) o e
+        (now (blocks .entry)) (now (log .entry)) (now (blocks .exit)) (now (log .exit)) ⌝ }
 {
     if step == 1 {
         near_back(blocks, width, gap, c, o, bits, log, e);
@@ -134,8 +134,8 @@ fn near_back(
     e: usize,
 )
     requires { ⌜ Lent width o c e (now blocks) (now bits) (now log) × Pairs (blocksIn width (now blocks)) 1 gap c ⌝ }
-    ensures { λ _. ⌜ Ran width (bitBack (now (bits .entry))) (reverse (layerOf 1 gap c)) o e (now (blocks .entry))
-        (now (log .entry)) (now (blocks .exit)) (now (log .exit)) ⌝ }
+    ensures { λ _. ⌜ Ran width (now (bits .entry)) (reverse (layerOf 1 gap (backFrom (now (bits .entry)) e c) c)) o e
+        (now (blocks .entry)) (now (log .entry)) (now (blocks .exit)) (now (log .exit)) ⌝ }
 {
     match width {
         1 => apply_layers::in_parts_back(blocks, width, 0, 1, 1, gap, c, o, bits, log, e),
@@ -170,8 +170,8 @@ fn far_back(
     e: usize,
 )
     requires { ⌜ Lent width o c e (now blocks) (now bits) (now log) × Pairs (blocksIn width (now blocks)) step gap c ⌝ }
-    ensures { λ _. ⌜ Ran width (bitBack (now (bits .entry))) (reverse (layerOf step gap c)) o e (now (blocks .entry))
-        (now (log .entry)) (now (blocks .exit)) (now (log .exit)) ⌝ }
+    ensures { λ _. ⌜ Ran width (now (bits .entry)) (reverse (layerOf step gap (backFrom (now (bits .entry)) e c) c)) o e
+        (now (blocks .entry)) (now (log .entry)) (now (blocks .exit)) (now (log .exit)) ⌝ }
 {
     match width {
         1 => apply_layers::in_parts_back(blocks, width, 0, 1, step, gap, c, o, bits, log, e),

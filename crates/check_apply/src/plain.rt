@@ -176,13 +176,16 @@ fn turned(e: usize, count: usize, back: bool) -> usize {
     e
 }
 
-fn write_words(log: &mut [u16], at: usize, p: usize, q: usize) {
+fn write_words(log: &mut [u16], e: usize, p: usize, q: usize, bit: usize) {
+    let at = e % 16384 * 4;
     put_word(log, at, 7);
-    put_word(log, tally::add(at, 1), p);
-    put_word(log, tally::add(at, 2), q);
+    put_word(log, at + 1, p);
+    put_word(log, at + 2, q);
+    put_word(log, at + 3, bit);
 }
 
-// Runs the listed switches under their bits, first to last or last to first, and logs them.
+// Runs the listed switches under their bits, first to last or last to first, and logs them: of their entries those from `from` on
+// and below `to`.
 pub(crate) fn run(
     blocks: &mut [u8],
     width: usize,
@@ -192,14 +195,44 @@ pub(crate) fn run(
     bits: &[u8],
     log: &mut [u16],
     back: bool,
+    from: usize,
+    to: usize,
 ) {
-    let mut at = 0;
-    let mut e = 0;
-    while e < count {
+    let mut e = from;
+    while e < to {
         let i = turned(e, count, back);
         act(blocks, width, get(lower, i), get(upper, i), bit(bits, i));
-        write_words(log, at, get(lower, i), get(upper, i));
-        at = tally::add(at, 3);
+        write_words(log, e, get(lower, i), get(upper, i), i);
+        e += 1;
+    }
+}
+
+// ---- a log that was written, from any entry on
+
+fn word(log: &[u16], i: usize) -> usize {
+    if i < log.len() { wide(log[i]) } else { 0 }
+}
+
+fn wide(x: u16) -> usize {
+    x as usize
+}
+
+// The entry whose words begin at `at`, by these alone.
+fn act_by_words(blocks: &mut [u8], width: usize, log: &[u16], at: usize, bits: &[u8]) {
+    let first = word(log, tally::add(at, 1));
+    let second = word(log, tally::add(at, 2));
+    let position = word(log, tally::add(at, 3));
+    if word(log, at) == 7 {
+        act(blocks, width, first, second, bit(bits, position));
+    }
+}
+
+// Runs entries one after the other. How many there were before them is not told.
+pub(crate) fn replay(blocks: &mut [u8], width: usize, entries: &[u16], bits: &[u8]) {
+    let count = entries.len() / 4;
+    let mut e = 0;
+    while e < count {
+        act_by_words(blocks, width, entries, e * 4, bits);
         e += 1;
     }
 }

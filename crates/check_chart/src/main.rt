@@ -61,7 +61,7 @@ fn moved(t: Tally, n: usize, blocks: &mut [u8], seed: u32, moves: usize) -> Tall
     let drawn = plain::draw_bits(seed);
     let w = counts::switches(n);
     let bits = &drawn[..w];
-    let mut log = [0u16; 27651];
+    let mut log = [0u16; entry_log::MOST_MOVE_WORDS];
     let a = apply::apply(n, 6, blocks, bits, &mut log);
     let t1 = tally::tallied(t, a.number == 0);
     if moves == 1 {

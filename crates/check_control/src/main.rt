@@ -21,7 +21,7 @@ fn same_blocks(t: Tally, a: &[u8; 262144], b: &[u8; 262144]) -> Tally {
     tally::tallied(t, check::same(a, b))
 }
 
-fn same_words(t: Tally, a: &[u16; 49152], b: &[u16; 49152]) -> Tally {
+fn same_words(t: Tally, a: &[u16; 65536], b: &[u16; 65536]) -> Tally {
     tally::tallied(t, tally::same_words(a, b))
 }
 
@@ -69,6 +69,11 @@ fn wide(x: u8) -> u16 {
     x as u16
 }
 
+// The words of so many entries, and up to two more.
+fn room(entries: usize, more: u8) -> usize {
+    entries % 16384 * 4 + (more % 3) as usize
+}
+
 // Set into buffers full of `old`: the answer, all the bits and all the words of the log.
 fn set(
     t: Tally,
@@ -81,9 +86,9 @@ fn set(
     let w = nets::of(nets, 0, nets::BITS);
     let entries = nets::of(nets, 0, nets::ENTRIES);
     let mut plain = [old; counts::MOST_SWITCHES];
-    let mut log = [wide(old); 49152];
-    let mut right = [wide(old); 49152];
-    let x = calls::set(order, n, bits, w, &mut log, entries % 16384 * 3 + 2);
+    let mut log = [wide(old); 65536];
+    let mut right = [wide(old); 65536];
+    let x = calls::set(order, n, bits, w, &mut log, room(entries, old));
     setter::set(order, nets, &mut plain);
     nets::write_all(&mut right, nets);
     let t1 = same_bits(accepted(t, x, entries), bits, &plain);
@@ -233,7 +238,7 @@ fn telling() -> Tally {
     let order = [0u16, 3, 2, 1, 4];
     let right = [0u8, 1, 0, 0, 0, 1, 0, 1];
     let mut bits = [7u8; 8];
-    let mut log = [0u16; 75];
+    let mut log = [0u16; 100];
     let x = control::control_bits(&order, &mut bits, &mut log);
     tally::tallied(accepted(tally::none(), x, 25), check::same(&bits, &right))
 }

@@ -107,47 +107,49 @@ pub(crate) fn list(n: usize) -> [usize; 12288] {
 
 // ---- the log
 
-fn write(log: &mut [u16; 49152], e: usize, kind: u16, o: usize, m: usize) {
-    let at = e % 16384 * 3;
+fn write(log: &mut [u16; 65536], e: usize, kind: u16, o: usize, m: usize, bit: usize) {
+    let at = e % 16384 * 4;
     log[at] = kind;
     log[at + 1] = (o % 65536) as u16;
     log[at + 2] = (m % 65536) as u16;
+    log[at + 3] = (bit % 65536) as u16;
 }
 
 // Steps 1, 2, 3 for each of the k pairs, then 4, from entry e on.
-fn write_rounds(log: &mut [u16; 49152], e: usize, o: usize, m: usize) {
+fn write_rounds(log: &mut [u16; 65536], e: usize, o: usize, m: usize, bit: usize) {
     let k = up(m);
     let mut at = e;
     let mut i = 0;
     while i < k {
-        write(log, at, 1, o, m);
-        write(log, tally::add(at, 1), 2, o, m);
-        write(log, tally::add(at, 2), 3, o, m);
+        write(log, at, 1, o, m, bit);
+        write(log, tally::add(at, 1), 2, o, m, bit);
+        write(log, tally::add(at, 2), 3, o, m, bit);
         at = tally::add(at, 3);
         i += 1;
     }
-    write(log, at, 4, o, m);
+    write(log, at, 4, o, m, bit);
 }
 
-fn write_net(log: &mut [u16; 49152], nets: &[usize; 12288], j: usize) {
+fn write_net(log: &mut [u16; 65536], nets: &[usize; 12288], j: usize) {
     let o = of(nets, j, START);
     let m = of(nets, j, SIZE);
+    let bit = of(nets, j, BIT);
     let e = of(nets, j, ENTRY);
     if m < 2 {
         return;
     }
     if 2 < m {
-        write_rounds(log, e, o, m);
+        write_rounds(log, e, o, m, bit);
     }
-    write(log, less(tally::add(e, entries_before(m))), 5, o, m);
-    write(log, less(tally::add(e, of(nets, j, ENTRIES))), 6, o, m);
+    write(log, less(tally::add(e, entries_before(m))), 5, o, m, bit);
+    write(log, less(tally::add(e, of(nets, j, ENTRIES))), 6, o, m, bit);
 }
 
 pub(crate) fn less(x: usize) -> usize {
     if x == 0 { 0 } else { x - 1 }
 }
 
-pub(crate) fn write_all(log: &mut [u16; 49152], nets: &[usize; 12288]) {
+pub(crate) fn write_all(log: &mut [u16; 65536], nets: &[usize; 12288]) {
     let mut j = 0;
     while j < 1023 {
         write_net(log, nets, j);

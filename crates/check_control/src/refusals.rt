@@ -1,5 +1,6 @@
 // The refusals of set: the answer, and both buffers as they were.
 use crate::calls;
+use crate::nets;
 use crate::orders;
 use tally::Tally;
 
@@ -13,11 +14,11 @@ fn refused(
     place: usize,
 ) -> Tally {
     let mut bits = [7u8; counts::MOST_SWITCHES];
-    let mut log = [77u16; 49152];
+    let mut log = [77u16; 65536];
     let x = calls::set(order, n, &mut bits, w, &mut log, words);
     let t1 = tally::tallied(t, tally::same_answer(x, answers::refuse(number, place)));
     let t2 = crate::same_bits(t1, &bits, &[7u8; counts::MOST_SWITCHES]);
-    crate::same_words(t2, &log, &[77u16; 49152])
+    crate::same_words(t2, &log, &[77u16; 65536])
 }
 
 // An order with entry x at place p.
@@ -32,14 +33,24 @@ fn with(order: &[u16; 1024], p: usize, x: u16) -> [u16; 1024] {
     out
 }
 
-// Five places have 8 bits and 25 entries. Each length alone, then with every later question a no.
+// Five places have 8 bits and 25 entries of four words. Each length alone, then with every later question a no.
 fn lengths(t: Tally, order: &[u16; 1024], bad: &[u16; 1024]) -> Tally {
-    let t1 = refused(t, order, 5, 7, 75, 4, 0);
-    let t2 = refused(t1, order, 5, 9, 75, 4, 0);
-    let t3 = refused(t2, bad, 5, 7, 74, 4, 0);
-    let t4 = refused(t3, order, 5, 8, 74, 5, 0);
+    let t1 = refused(t, order, 5, 7, 100, 4, 0);
+    let t2 = refused(t1, order, 5, 9, 100, 4, 0);
+    let t3 = refused(t2, bad, 5, 7, 99, 4, 0);
+    let t4 = refused(t3, order, 5, 8, 99, 5, 0);
     let t5 = refused(t4, order, 5, 8, 0, 5, 0);
-    refused(t5, bad, 5, 8, 74, 5, 0)
+    refused(t5, bad, 5, 8, 99, 5, 0)
+}
+
+// A log one word too short, and one of three words an entry.
+fn rooms(t: Tally, n: usize) -> Tally {
+    let order = orders::order(7, n, true);
+    let nets = nets::list(n);
+    let w = nets::of(&nets, 0, nets::BITS);
+    let entries = nets::of(&nets, 0, nets::ENTRIES) % 16384;
+    let t1 = refused(t, &order, n, w, nets::less(entries * 4), 5, 0);
+    refused(t1, &order, n, w, entries * 3, 5, 0)
 }
 
 // Entry p too large, or like entry q, where q is before p; and with another bad entry behind it.
@@ -63,11 +74,11 @@ fn contents(
 fn each_size(t: Tally, seed: u32) -> Tally {
     let small = orders::order(seed, 5, true);
     let large = orders::order(seed, 1024, true);
-    let t1 = contents(t, &small, 5, 8, 75, 0, 1);
-    let t2 = contents(t1, &small, 5, 8, 80, 2, 4);
-    let t3 = contents(t2, &large, 1024, 9217, 49143, 0, 1);
-    let t4 = contents(t3, &large, 1024, 9217, 49143, 511, 512);
-    contents(t4, &large, 1024, 9217, 49152, 0, 1022)
+    let t1 = contents(t, &small, 5, 8, 100, 0, 1);
+    let t2 = contents(t1, &small, 5, 8, 103, 2, 4);
+    let t3 = contents(t2, &large, 1024, 9217, 65524, 0, 1);
+    let t4 = contents(t3, &large, 1024, 9217, 65524, 511, 512);
+    contents(t4, &large, 1024, 9217, 65536, 0, 1022)
 }
 
 // Case o: 1,025 entries.
@@ -85,5 +96,6 @@ pub(crate) fn all() -> Tally {
     let order = orders::order(5, 5, true);
     let bad = with(&order, 4, 5);
     let t1 = lengths(tally::none(), &order, &bad);
-    each_size(too_many(t1), 2026)
+    let t2 = rooms(rooms(rooms(t1, 2), 5), 1024);
+    each_size(too_many(t2), 2026)
 }

@@ -34,8 +34,8 @@ pub(crate) fn there_and_back(
     let mut right = [7u8; 9232];
     let mut out = [7u8; 9232];
     let mut back = [7u8; 9232];
-    let mut log = [0u16; 49168];
-    calls::set(Topology::Paper, order, n, &mut right, w, &mut log, 49168);
+    let mut log = [0u16; 65552];
+    calls::set(Topology::Paper, order, n, &mut right, w, &mut log, 65552);
     let t1 = converted(t, Topology::Neighbour, n, w, given, &mut out);
     let t2 = converted(t1, Topology::Paper, n, w, &out, &mut back);
     let t3 = crate::same_bits(crate::same_bits(t2, &out, &right), &back, plain);
@@ -70,7 +70,7 @@ fn mixed(
 ) -> Tally {
     let mut away = *home;
     let mut blocks = *home;
-    let mut log = [0u16; 49168];
+    let mut log = [0u16; 65552];
     orders::scatter(&mut away, home, order, n, 6);
     crate::one_way(Topology::Paper, n, 6, &mut blocks, bits, w, &mut log, false);
     crate::same_blocks(t, &blocks, &away, tally::times(n, 6))

@@ -6,6 +6,7 @@ mod conversions;
 mod lists;
 mod logs;
 mod orders;
+mod replay;
 
 use answers::Answer;
 use tally::Tally;
@@ -22,7 +23,7 @@ fn same_bits(t: Tally, a: &[u8; 9232], b: &[u8; 9232]) -> Tally {
     tally::tallied(t, alike(a, b))
 }
 
-fn same_words(t: Tally, a: &[u16; 49168], b: &[u16; 49168]) -> Tally {
+fn same_words(t: Tally, a: &[u16; 65552], b: &[u16; 65552]) -> Tally {
     tally::tallied(t, tally::same_words(a, b))
 }
 
@@ -41,16 +42,18 @@ fn accepted(t: Tally, x: Answer, count: usize) -> Tally {
     tally::tallied(t, tally::same_answer(x, answers::accept(count)))
 }
 
-// The words of so many entries, and two more.
-fn room(entries: usize) -> usize {
-    entries % 16384 * 3 + 2
+// The words of so many entries, and up to three more.
+fn room(entries: usize, more: usize) -> usize {
+    entries % 16384 * 4 + more % 4
 }
 
 // ---- one order
 
-// Mix or return by a setting: the answer, and all the words of the log.
+// Mix or return by a setting that carries an order: the answer, all the words of the log, and what the log leaves, run from a drawn
+// entry on.
 fn moved(
     t: Tally,
+    order: &[u16; 1024],
     n: usize,
     width: usize,
     blocks: &mut [u8; 262208],
@@ -59,8 +62,8 @@ fn moved(
     back: bool,
 ) -> Tally {
     let w = lists::switches(layers);
-    let mut log = [OLD; 49168];
-    let mut right = [OLD; 49168];
+    let mut log = [OLD; 65552];
+    let mut right = [OLD; 65552];
     logs::write_moves(&mut right, layers, back);
     let x = one_way(
         Topology::Neighbour,
@@ -72,7 +75,9 @@ fn moved(
         &mut log,
         back,
     );
-    same_words(accepted(t, x, w), &log, &right)
+    let t1 = same_words(accepted(t, x, w), &log, &right);
+    let e = replay::drawn(order, width, w);
+    replay::from_middle(t1, order, bits, w, &right, &log, e, back)
 }
 
 fn one_way(
@@ -82,13 +87,13 @@ fn one_way(
     blocks: &mut [u8; 262208],
     bits: &[u8; 9232],
     w: usize,
-    log: &mut [u16; 49168],
+    log: &mut [u16; 65552],
     back: bool,
 ) -> Answer {
     if back {
-        return calls::unmix(t, n, width, blocks, bits, w, log, room(w));
+        return calls::unmix(t, n, width, blocks, bits, w, log, room(w, width));
     }
-    calls::mix(t, n, width, blocks, bits, w, log, room(w))
+    calls::mix(t, n, width, blocks, bits, w, log, room(w, width))
 }
 
 // Mixed, each block is where the order says; returned, it is home.
@@ -105,9 +110,9 @@ fn carry(
     let mut away = *home;
     let mut blocks = *home;
     orders::scatter(&mut away, home, order, n, width);
-    let t1 = moved(t, n, width, &mut blocks, bits, layers, false);
+    let t1 = moved(t, order, n, width, &mut blocks, bits, layers, false);
     let t2 = same_blocks(t1, &blocks, &away, bytes);
-    let t3 = moved(t2, n, width, &mut blocks, bits, layers, true);
+    let t3 = moved(t2, order, n, width, &mut blocks, bits, layers, true);
     same_blocks(t3, &blocks, home, bytes)
 }
 
@@ -120,8 +125,8 @@ fn set(
     plain: &[u8; 9232],
 ) -> Tally {
     let mut bits = [7u8; 9232];
-    let mut log = [OLD; 49168];
-    let mut right = [OLD; 49168];
+    let mut log = [OLD; 65552];
+    let mut right = [OLD; 65552];
     let w = lists::switches(layers);
     let entries = logs::write_steps(&mut right, layers);
     let x = calls::set(
@@ -131,7 +136,7 @@ fn set(
         &mut bits,
         w,
         &mut log,
-        room(entries),
+        room(entries, n),
     );
     same_words(
         same_bits(accepted(t, x, entries), &bits, plain),

@@ -1,15 +1,16 @@
 // What is set, mixed, returned and converted: orders, settings and blocks.
 use crate::lists;
 use crate::logs;
+use crate::replay;
 
-fn exchange(a: &mut [u16; 1024], i: usize, j: usize) {
+pub(crate) fn exchange(a: &mut [u16; 1024], i: usize, j: usize) {
     let x = a[i % 1024];
     a[i % 1024] = a[j % 1024];
     a[j % 1024] = x;
 }
 
 // Each place itself.
-fn places() -> [u16; 1024] {
+pub(crate) fn places() -> [u16; 1024] {
     let mut a = [0u16; 1024];
     let mut i = 0;
     while i < 1024 {
@@ -19,13 +20,13 @@ fn places() -> [u16; 1024] {
     a
 }
 
-fn wide(x: u16) -> usize {
+pub(crate) fn wide(x: u16) -> usize {
     x as usize
 }
 
 // ---- orders and settings
 
-fn digit(x: u32, base: usize) -> usize {
+pub(crate) fn digit(x: u32, base: usize) -> usize {
     if base == 0 {
         return 0;
     }
@@ -77,24 +78,13 @@ pub(crate) fn setting(c: u32, w: usize) -> [u8; 9232] {
     bits
 }
 
-// Switch e, under its bit.
-fn act(a: &mut [u16; 1024], log: &[u16; 49168], bits: &[u8; 9232], e: usize) {
-    let i = e % 9217;
-    if bits[i] == 1 {
-        exchange(a, wide(log[i * 3 + 1]), wide(log[i * 3 + 2]));
-    }
-}
-
 // The order that a setting carries: its switches act on the places, the last first, and then place i holds the one to which i goes.
 pub(crate) fn carried(layers: &[usize; 12288], bits: &[u8; 9232]) -> [u16; 1024] {
-    let mut log = [0u16; 49168];
-    logs::write_moves(&mut log, layers, false);
+    let w = lists::switches(layers);
+    let mut log = [0u16; 65552];
+    logs::write_moves(&mut log, layers, true);
     let mut a = places();
-    let mut e = lists::switches(layers);
-    while 0 < e {
-        e -= 1;
-        act(&mut a, &log, bits, e);
-    }
+    replay::counted(&mut a, &log, bits, w, w, true);
     a
 }
 

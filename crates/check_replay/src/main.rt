@@ -1,9 +1,11 @@
-// Runs the logs that set writes in both wirings, entry by entry, on a table of its own, and compares the bits that this leaves with the
-// bits that set left. Only the log says which network is next: it is found by its start and size. The bits follow each other as the
-// steps that pass them do.
+// Runs the logs that set writes in both wirings, and those of listed orders, entry by entry, on a table of its own, and compares the bits
+// that this leaves with the bits that the call left. Only the log says which network is next: it is found by its start and size. Each log
+// is run by its own words from its first entry on; and from a drawn entry on, where up to there the bits are counted in a plain walk.
+mod entries;
 mod nets;
 mod replay;
 
+use answers::Answer;
 use tally::Tally;
 use wirings::Topology;
 ghost use Prim.Native.Nat.{_≤_};
@@ -17,6 +19,46 @@ fn topology(paper: bool) -> Topology {
         return Topology::Paper;
     }
     Topology::Neighbour
+}
+
+// The log of a call, by its own words from entry e on.
+fn from(
+    t: Tally,
+    paper: bool,
+    n: usize,
+    order: &[u16; 1024],
+    bits: &[u8; counts::MOST_SWITCHES],
+    log: &[u16; entry_log::MOST_SET_WORDS],
+    count: usize,
+    e: usize,
+) -> Tally {
+    let mut again = [0u8; counts::MOST_SWITCHES];
+    let home = entries::from(paper, n, order, log, count, e, &mut again);
+    tally::tallied(t, alike(bits, &again) & home)
+}
+
+// An entry's number, up to `count`.
+fn drawn(seed: u32, n: usize, count: usize) -> usize {
+    let x = tally::next(seed % 65536 * 1025 + (n % 1025) as u32);
+    x as usize % (count % 16384 + 1)
+}
+
+// The call is accepted; its log is run from the first entry on, and from a drawn one on.
+fn replayed(
+    t: Tally,
+    paper: bool,
+    n: usize,
+    order: &[u16; 1024],
+    bits: &[u8; counts::MOST_SWITCHES],
+    log: &[u16; entry_log::MOST_SET_WORDS],
+    x: Answer,
+    seed: u32,
+) -> Tally {
+    let count = x.count;
+    let t1 = tally::tallied(t, x.number == 0);
+    let t2 = from(t1, paper, n, order, bits, log, count, 0);
+    let e = drawn(seed, n, count);
+    from(t2, paper, n, order, bits, log, count, e)
 }
 
 // One order of n places, drawn by the sequence behind a seed.
@@ -33,9 +75,7 @@ fn check_order(t: Tally, paper: bool, n: usize, seed: u32) -> Tally
     let mut bits = [0u8; counts::MOST_SWITCHES];
     let mut log = [0u16; entry_log::MOST_SET_WORDS];
     let answer = control::control_bits_in(topology(paper), &order[..n], &mut bits[..w], &mut log);
-    let mut again = [0u8; counts::MOST_SWITCHES];
-    replay::run(paper, n, &order, &log, answer.count, &mut again);
-    tally::tallied(tally::tallied(t, answer.number == 0), alike(&bits, &again))
+    replayed(t, paper, n, &order, &bits, &log, answer, seed)
 }
 
 // Orders of n places from so many seeds.
@@ -49,6 +89,47 @@ fn check_size(before: Tally, paper: bool, n: usize, count: u32) -> Tally
         t = check_order(t, paper, n, c);
     }
     t
+}
+
+// Order number r of n places, as it is listed.
+fn check_listed(t: Tally, n: usize, r: usize) -> Tally
+    requires { ⌜ n ≤ 6 ⌝ }
+{
+    let w = counts::switches(n);
+    let mut order = [0u16; 1024];
+    let mut bits = [0u8; counts::MOST_SWITCHES];
+    let mut log = [0u16; entry_log::MOST_SET_WORDS];
+    let answer = ranks::ranked_order(n, r, &mut order, &mut bits[..w], &mut log);
+    replayed(
+        t,
+        true,
+        n,
+        &order,
+        &bits,
+        &log,
+        answer,
+        (r % 1024 + 1) as u32,
+    )
+}
+
+// All `count` of them.
+fn listed(before: Tally, n: usize, count: usize) -> Tally
+    requires { ⌜ n ≤ 6 ⌝ }
+{
+    let mut t = before;
+    let mut r = 0;
+    while r < count {
+        t = check_listed(t, n, r);
+        r += 1;
+    }
+    t
+}
+
+fn all_listed(t: Tally) -> Tally {
+    let t1 = listed(listed(t, 0, 1), 1, 1);
+    let t2 = listed(listed(t1, 2, 2), 3, 6);
+    let t3 = listed(listed(t2, 4, 24), 5, 120);
+    listed(t3, 6, 720)
 }
 
 // Every size below `to`.
@@ -94,4 +175,8 @@ fn main() {
     );
     tally::print(b"up to 64", sizes(false, 65, 40));
     tally::print(b"up to 1024", large(false));
+    tally::print(
+        b"all listed orders of up to 6 places",
+        all_listed(tally::none()),
+    );
 }

@@ -1,16 +1,16 @@
-// Runs a setter's log, entry by entry and in either wiring, on a hidden table of its own: at each place trail × 2,048 + value, where a
-// trail is a number whose lowest binary digit is its last bit.
+// The steps of a setter's log, in either wiring, on a hidden table of its own: at each place trail × 2,048 + value, where a trail is a
+// number whose lowest binary digit is its last bit.
 use crate::nets;
 use crate::nets::Net;
 
-// f, c, g, s of document 01, and the position of the next bit: a network's input bits are passed in its step 4, its output bits
-// in its step 6, and those of its halves between.
-struct Walk {
-    f: usize,
-    c: usize,
-    g: usize,
-    s: usize,
-    b: usize,
+// f, c, g, s of document 01, and the position of the bits that the next step writes or acts by. A plain walk counts it: a network's
+// input bits are passed in its step 4, its output bits in its step 6, and those of its halves between.
+pub struct Walk {
+    pub f: usize,
+    pub c: usize,
+    pub g: usize,
+    pub s: usize,
+    pub b: usize,
 }
 
 // ---- the table
@@ -260,19 +260,23 @@ fn regained(paper: bool, k: usize, cell: usize) -> usize {
     tally::add(trail / 2 * 2048, v)
 }
 
-// A step was done that passed n bits.
-fn passed(w: Walk, n: usize) -> Walk {
+pub(crate) fn at_bit(w: Walk, b: usize) -> Walk {
     Walk {
         f: w.f,
         c: w.c,
         g: w.g,
         s: w.s,
-        b: tally::add(w.b, n),
+        b,
     }
 }
 
+// A step was done that passed n bits.
+fn passed(w: Walk, n: usize) -> Walk {
+    at_bit(w, tally::add(w.b, n))
+}
+
 // One entry: the step of its kind on its network.
-fn step(
+pub(crate) fn step(
     table: &mut [usize; 1024],
     marks: &mut [usize; 1024],
     bits: &mut [u8; counts::MOST_SWITCHES],
@@ -297,36 +301,4 @@ fn step(
         _ => {}
     }
     w
-}
-
-fn wide(x: u16) -> usize {
-    x as usize
-}
-
-// Runs the first `count` entries of a log, from an order of n places and bits that are all 0.
-pub(crate) fn run(
-    paper: bool,
-    n: usize,
-    order: &[u16; 1024],
-    log: &[u16; entry_log::MOST_SET_WORDS],
-    count: usize,
-    bits: &mut [u8; counts::MOST_SWITCHES],
-) {
-    let mut table = tally::widened(order);
-    let mut marks = [0usize; 1024];
-    let mut w = Walk {
-        f: 0,
-        c: 0,
-        g: 0,
-        s: 0,
-        b: 0,
-    };
-    let mut e = 0;
-    while e < count {
-        let i = e % 16381 * 3;
-        let kind = log[i];
-        let net = nets::find(paper, n, wide(log[i + 1]), wide(log[i + 2]));
-        w = step(&mut table, &mut marks, bits, net, kind, w);
-        e += 1;
-    }
 }

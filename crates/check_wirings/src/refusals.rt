@@ -1,6 +1,7 @@
-// Every set of faults at five places of six bytes, which have 30 bytes, 8 bits and a log of 24 words (of 75 for set): the first question
+// Every set of faults at five places of six bytes, which have 30 bytes, 8 bits and a log of 32 words (of 100 for set): the first question
 // in sequence is the one named, and all buffers stay as they were. Faults are a number: its binary digit q says whether question q
-// gets a no, and digit 0 whether a length is then too small, or else too large. The converter asks no 5; here that is its second 4.
+// gets a no, and digit 0 whether a length is then too small, or else too large; a log is then a word short at each entry, or one word
+// short. The converter asks no 5; here that is its second 4.
 use answers::Answer;
 use tally::Tally;
 use wirings::Topology;
@@ -31,8 +32,8 @@ fn kept(t: Tally, bytes: &[u8; 64]) -> Tally {
     tally::tallied(t, check::same(bytes, &[33u8; 64]))
 }
 
-fn kept_log(t: Tally, log: &[u16; 96]) -> Tally {
-    tally::tallied(t, tally::same_words(log, &[77u16; 96]))
+fn kept_log(t: Tally, log: &[u16; 128]) -> Tally {
+    tally::tallied(t, tally::same_words(log, &[77u16; 128]))
 }
 
 // ---- set: 1, 4, 5, 6
@@ -53,9 +54,9 @@ fn of_set(t: Tally, f: u32) -> Tally {
     let list = order(no(f, 6));
     let n = pick(f, 1, 1025, 1025, 5) % 1026;
     let w = pick(f, 4, 7, 9, 8) % 16;
-    let words = pick(f, 5, 0, 74, 75) % 96;
+    let words = pick(f, 5, 75, 99, 100) % 128;
     let mut bits = [33u8; 64];
-    let mut log = [77u16; 96];
+    let mut log = [77u16; 128];
     let x = control::control_bits_in(
         Topology::Neighbour,
         &list[..n],
@@ -90,9 +91,9 @@ fn of_mix(t: Tally, f: u32, back: bool) -> Tally {
     let bits = setting(no(f, 7));
     let bytes = pick(f, 3, 29, 31, 30) % 64;
     let w = pick(f, 4, 7, 9, 8) % 16;
-    let words = pick(f, 5, 0, 23, 24) % 96;
+    let words = pick(f, 5, 24, 31, 32) % 128;
     let mut blocks = [33u8; 64];
-    let mut log = [77u16; 96];
+    let mut log = [77u16; 128];
     let x = mix(f, &mut blocks[..bytes], &bits[..w], &mut log[..words], back);
     kept_log(kept(refused(t, x, first(f)), &blocks), &log)
 }

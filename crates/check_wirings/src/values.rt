@@ -10,7 +10,7 @@ fn accepted(t: Tally, x: Answer, count: usize) -> Tally {
 // ---- settings
 
 fn setting(t: Tally, order: &[u16], bits: &mut [u8], right: &[u8]) -> Tally {
-    let mut log = [0u16; 168];
+    let mut log = [0u16; 224];
     control::control_bits_in(Topology::Neighbour, order, bits, &mut log);
     tally::tallied(t, check::same(bits, right))
 }
@@ -96,24 +96,30 @@ const PAPER: [u8; 21] = [
     0,
 ];
 
-// Entry e is of kind 5 on the network of m places from o.
-fn five(log: &[u16; 168], e: usize, o: u16, m: u16) -> bool {
-    let i = e % 56 * 3;
-    (log[i] == 5) & (log[i + 1] == o) & (log[i + 2] == m)
+// Entry e is of a kind, on the network of m places from o whose first bit is at `bit`.
+fn entry(log: &[u16; 224], e: usize, kind: u16, o: u16, m: u16, bit: u16) -> bool {
+    let i = e % 56 * 4;
+    (log[i] == kind) & (log[i + 1] == o) & (log[i + 2] == m) & (log[i + 3] == bit)
 }
 
-fn fives(log: &[u16; 168]) -> bool {
-    let top = five(log, 16, 0, 9) & five(log, 27, 0, 5) & five(log, 35, 0, 3);
-    let small = five(log, 36, 0, 2) & five(log, 39, 2, 2);
-    top & small & five(log, 49, 1, 4) & five(log, 50, 1, 2) & five(log, 52, 3, 2)
+// Entries a and b are of the kinds 5 and 6 on a network.
+fn both(log: &[u16; 224], a: usize, b: usize, o: u16, m: u16, bit: u16) -> bool {
+    entry(log, a, 5, o, m, bit) & entry(log, b, 6, o, m, bit)
+}
+
+fn networks(log: &[u16; 224]) -> bool {
+    let top = both(log, 16, 55, 0, 9, 0) & both(log, 27, 41, 0, 5, 4) & both(log, 35, 38, 0, 3, 6);
+    let small = both(log, 36, 37, 0, 2, 7) & both(log, 39, 40, 2, 2, 9);
+    let bottom = both(log, 49, 54, 1, 4, 12);
+    top & small & bottom & both(log, 50, 51, 1, 2, 13) & both(log, 52, 53, 3, 2, 14)
 }
 
 fn nine(t: Tally) -> Tally {
     let mut bits = [7u8; 21];
-    let mut log = [0u16; 168];
+    let mut log = [0u16; 224];
     let x = control::control_bits_in(Topology::Neighbour, &ORDER, &mut bits, &mut log);
     let t1 = tally::tallied(accepted(t, x, 56), check::same(&bits, &SETTING));
-    tally::tallied(t1, fives(&log))
+    tally::tallied(t1, networks(&log))
 }
 
 fn converted(t: Tally, from: Topology, given: &[u8; 21], right: &[u8; 21]) -> Tally {
@@ -126,7 +132,7 @@ fn converted(t: Tally, from: Topology, given: &[u8; 21], right: &[u8; 21]) -> Ta
 
 fn mixed(t: Tally) -> Tally {
     let mut blocks = [b'a', b'b', b'c', b'd', b'e', b'f', b'g', b'h', b'i'];
-    let mut log = [0u16; 63];
+    let mut log = [0u16; 84];
     apply::apply_in(Topology::Neighbour, 9, 1, &mut blocks, &SETTING, &mut log);
     let t1 = tally::tallied(t, check::same(&blocks, b"hfbcieadg"));
     apply::apply_inverse_in(Topology::Neighbour, 9, 1, &mut blocks, &SETTING, &mut log);
@@ -134,7 +140,7 @@ fn mixed(t: Tally) -> Tally {
 }
 
 fn three(t: Tally) -> Tally {
-    let mut log = [0u16; 9];
+    let mut log = [0u16; 12];
     let x = apply::apply_in(
         Topology::Neighbour,
         3,
@@ -143,12 +149,27 @@ fn three(t: Tally) -> Tally {
         &[1u8; 3],
         &mut log,
     );
-    let right = [7u16, 0, 1, 7, 0, 2, 7, 0, 1];
+    let right = [7u16, 0, 1, 0, 7, 0, 2, 1, 7, 0, 1, 2];
+    tally::tallied(accepted(t, x, 3), tally::same_words(&log, &right))
+}
+
+// Returned, the switches come last to first, each with its own position.
+fn three_back(t: Tally) -> Tally {
+    let mut log = [0u16; 12];
+    let x = apply::apply_inverse_in(
+        Topology::Neighbour,
+        3,
+        1,
+        &mut [1u8; 3],
+        &[1u8; 3],
+        &mut log,
+    );
+    let right = [7u16, 0, 1, 2, 7, 0, 2, 1, 7, 0, 1, 0];
     tally::tallied(accepted(t, x, 3), tally::same_words(&log, &right))
 }
 
 fn four(t: Tally) -> Tally {
-    let mut log = [0u16; 15];
+    let mut log = [0u16; 20];
     let x = apply::apply_in(
         Topology::Neighbour,
         4,
@@ -157,7 +178,28 @@ fn four(t: Tally) -> Tally {
         &[1u8; 5],
         &mut log,
     );
-    let right = [7u16, 0, 1, 7, 0, 2, 7, 1, 3, 7, 0, 1, 7, 2, 3];
+    let right = [
+        7u16,
+        0,
+        1,
+        0,
+        7,
+        0,
+        2,
+        1,
+        7,
+        1,
+        3,
+        2,
+        7,
+        0,
+        1,
+        3,
+        7,
+        2,
+        3,
+        4,
+    ];
     tally::tallied(accepted(t, x, 5), tally::same_words(&log, &right))
 }
 
@@ -165,5 +207,5 @@ pub(crate) fn all() -> Tally {
     let t1 = rings(settings(tally::none()));
     let t2 = converted(t1, Topology::Paper, &PAPER, &SETTING);
     let t3 = converted(t2, Topology::Neighbour, &SETTING, &PAPER);
-    four(three(mixed(nine(t3))))
+    four(three_back(three(mixed(nine(t3)))))
 }

@@ -12,7 +12,7 @@ use Rattle.answers.proofs.Outcomes.{Numbered, accepted-when, logged-refused}
 use Rattle.counts.specs.Counts.{W, E}
 use Rattle.network.specs.Wiring.{Wiring, Lawful, paper}
 use Rattle.network.specs.Blocks.{cut, bytesOf, moved, movedBack}
-use Rattle.network.specs.Log.{words, entries}
+use Rattle.network.specs.Log.{words, entries, run}
 use Rattle.network.proofs.Shape.{entries-words, length-applyEntries, length-inverseEntries}
 use Rattle.network.proofs.Paper.{paper-lawful}
 use Rattle.network.proofs.Blocks.{length-cut}
@@ -36,7 +36,9 @@ use Rattle.ranks_order.specs.Ranks.{orderAt}
 use Rattle.ranks_order.proofs.OrderAt.{length-orderAt, order-permutation}
 use Rattle.ranks.specs.Calls.{rankedCall}
 use Rattle.ranks.proofs.Asked.{rank-asked, rank-numbered}
-use Rattle.claims.specs.Calls.{Direction, mixing, returning, Call, set, move, mix, return, rank, moving, entriesDue, countDue, moveCall, runMove, movedBy, described, outcomeOf, Accepted, due, dueEntries, written}
+use Rattle.claims.specs.Calls.{Direction, mixing, returning, Call, set, move, mix, return, rank, moving}
+use Rattle.claims.specs.Calls.{entriesDue, countDue, moveCall, movedBy, described, replay, outcomeOf, Accepted}
+use Rattle.claims.specs.Calls.{due, dueEntries, written}
 use Rattle.claims.specs.Demands.{Demand1, Logs, Demand3}
 use Rattle.claims.proofs.Asked.{set-asked, set-numbered}
 use Rattle.claims.proofs.Settled.{Left, left}
@@ -57,7 +59,7 @@ record Laws (c : Call) : Type 0 where
   kept : {q p : ℕ} → asked c ≡ noAt q p → described c .besideLeft ≡ described c .beside
   all-numbered : Numbered (described c .questions)
   counted : length (dueEntries c) ≡ due c
-  runs : described c .run (dueEntries c) ≡ resultOf c
+  runs : replay c (dueEntries c) ≡ resultOf c
   right : asked c ≡ allYes → described c .Right (resultOf c)
   fills : asked c ≡ allYes → length (resultOf c) ≡ length (described c .buffer)
 
@@ -97,7 +99,7 @@ module _ (t : Topology) (n width : ℕ) (blocks bits log : List ℕ) where
   move-counted returning = length-inverseEntries (wiringOf t) n
 
   move-runs : (d : Direction)
-      → bytesOf (runMove d n bits (entriesDue t (moving d) n) (cut width n blocks)) ≡ movedBy (wiringOf t) d n width bits blocks
+      → bytesOf (run [] bits (entriesDue t (moving d) n) (cut width n blocks)) ≡ movedBy (wiringOf t) d n width bits blocks
   unfolding moved movedBack
   move-runs mixing = ap bytesOf (run-apply [] (lawful t) n bits (cut width n blocks) (length-cut width n blocks))
   move-runs returning = ap bytesOf (run-inverse [] (lawful t) n bits (cut width n blocks) (length-cut width n blocks))
@@ -151,6 +153,10 @@ laws (set t order bits log) = set-laws t order bits log
 laws (move t d n width blocks bits log) = move-laws t n width blocks bits log d
 laws (rank n r list bits log) = rank-laws n r list bits log
 
+-- as many entries as are due
+pub due-counted : (c : Call) → length (dueEntries c) ≡ due c
+due-counted c = laws c .counted
+
 -- ---- the calls of 01 are those in the paper's wiring
 
 pub paper-set : (order bits log : List ℕ) → setCall order bits log ≡ outcomeOf (set Paper order bits log)
@@ -195,7 +201,7 @@ demand1 c =
 
 -- ---- demand 3
 
-logs : (c : Call) → Accepted c → Logs c
+pub logs : (c : Call) → Accepted c → Logs c
 logs c a =
     let e = accepted-passes c a in
     let L = leaves c e in
@@ -205,7 +211,7 @@ logs c a =
       exact = exact;
       whole = L .words-are ∙ ap words (sym exact);
       beyond = L .log-is ∙ ap (overlay (described c .log) 0) (sym (L .words-are));
-      replays = ap (described c .run) exact ∙ laws c .runs ∙ sym (L .buffer);
+      replays = ap (replay c) exact ∙ laws c .runs ∙ sym (L .buffer);
       right = left-right c e;
     }
 

@@ -11,10 +11,11 @@ use Rattle.counts.specs.Counts.{W, E}
 use Rattle.network.specs.Wiring.{Wiring, paper}
 use Rattle.network.specs.Network.{network}
 use Rattle.network.specs.Blocks.{cut, bytesOf, moved, movedBack}
-use Rattle.network.specs.Log.{Entry, entryWords, applyEntries, inverseEntries, runApply, runInverse}
+use Rattle.network.specs.Log.{Entry, entryWords, applyEntries, inverseEntries, run}
 use Rattle.canonical.specs.Rule.{Canonical}
 use Rattle.steps.specs.Sequence.{setEntries}
-use Rattle.steps.specs.Run.{settingOf}
+use Rattle.steps.specs.State.{State, start}
+use Rattle.steps.specs.Run.{runSet}
 use Rattle.apply_questions.specs.Questions.{applyQuestions}
 use Rattle.wirings.specs.declared.Topology.{Topology}
 use Rattle.wirings.specs.declared.Topology.the-variants.{Paper}
@@ -70,11 +71,6 @@ abbrev pub moveCall : Wiring → Direction → (n width : ℕ) (blocks bits log 
 moveCall w mixing n width blocks bits log = applyCallIn w n width blocks bits log
 moveCall w returning n width blocks bits log = inverseCallIn w n width blocks bits log
 
--- running entries on blocks: each takes its own lent bit
-abbrev pub runMove : Direction → ℕ → List ℕ → List Entry → List (List ℕ) → List (List ℕ)
-runMove mixing n bits es blocks = runApply [] bits es blocks
-runMove returning n bits es blocks = runInverse [] n bits es blocks
-
 -- the blocks as the wiring moves them under the bits
 abbrev pub movedBy : Wiring → Direction → (n width : ℕ) (bits blocks : List ℕ) → List ℕ
 movedBy w mixing n width bits blocks = moved w n width bits blocks
@@ -102,8 +98,12 @@ pub record Described : Type 1 where
   -- lent memory that it may write beside these two, as it was lent and as the call leaves it
   pub beside : List (List ℕ)
   pub besideLeft : List (List ℕ)
-  -- running entries as a log, from the call's own input as it was lent (of a listed order: from the order that r names)
-  pub run : List Entry → List ℕ
+  -- running entries as a log: what they act on, as the call's own input that was lent gives it (of a listed order: as the order
+  -- that r names does), what entries make of it, and what of it is left at the end
+  pub Working : Type 0
+  pub begun : Working
+  pub act : List Entry → Working → Working
+  pub end : Working → List ℕ
   -- what has to be left
   pub Right : List ℕ → Type 0
 
@@ -119,7 +119,10 @@ described (set t order bits log) =
       log = log;
       beside = [];
       besideLeft = [];
-      run = λ es. settingOf (wiringOf t) order es;
+      Working = State;
+      begun = start order;
+      act = runSet (wiringOf t) (length order);
+      end = λ x. x .bits;
       -- demand 2's setting
       Right = λ left. Canonical (wiringOf t) (network (length order)) order left;
     }
@@ -134,7 +137,10 @@ described (move t d n width blocks bits log) =
       log = log;
       beside = [];
       besideLeft = [];
-      run = λ es. bytesOf (runMove d n bits es (cut width n blocks));
+      Working = List (List ℕ);
+      begun = cut width n blocks;
+      act = run [] bits;
+      end = bytesOf;
       -- the blocks as the wiring moves them under the lent bits
       Right = λ left. left ≡ movedBy (wiringOf t) d n width bits blocks;
     }
@@ -149,10 +155,17 @@ described (rank n r list bits log) =
       log = log;
       beside = list ∷ [];
       besideLeft = rankedCall n r list bits log .list ∷ [];
-      run = λ es. settingOf paper (orderAt n r) es;
+      Working = State;
+      begun = start (orderAt n r);
+      act = runSet paper (length (orderAt n r));
+      end = λ x. x .bits;
       -- the setting of the r-th order
       Right = λ left. Canonical paper (network n) (orderAt n r) left;
     }
+
+-- what entries leave that are run as the whole log of a call
+abbrev pub replay : Call → List Entry → List ℕ
+replay c es = described c .end (described c .act es (described c .begun))
 
 -- ---- what a call did
 
@@ -177,6 +190,6 @@ due c = countDue (described c .kind) (described c .places)
 abbrev pub dueEntries : Call → List Entry
 dueEntries c = entriesDue (wiringOfCall c) (described c .kind) (described c .places)
 
--- the whole log that it wrote: three words for each entry that it reports
+-- the whole log that it wrote: four words for each entry that it reports
 abbrev pub written : Call → List ℕ
 written c = take (entryWords * countOf c) (outcomeOf c .log)

@@ -33,7 +33,7 @@ pub record Filled (n width : ℕ) (blocks : List ℕ) : Type 0 where
   pub width-small : width ≤ 256
   pub blocks-fill : length blocks ≡ n * width
 
--- lent logs: three words for each entry of the setter, or for each switch
+-- lent logs: four words for each entry of the setter, or for each switch
 abbrev pub RoomToSet : ℕ → List ℕ → Type 0
 RoomToSet n log = entryWords * E n ≤ length log
 

@@ -7,7 +7,7 @@ use Rattle.answers.specs.Questions.{noAt, allYes, firstNo}
 use Rattle.answers.specs.Buffers.{overlay}
 use Rattle.answers.specs.Outcomes.{logged}
 use Rattle.network.specs.Log.{words, entries}
-use Rattle.claims.specs.Calls.{Call, described, outcomeOf, wiringOfCall, Accepted, countOf, due, dueEntries, written}
+use Rattle.claims.specs.Calls.{Call, described, replay, outcomeOf, wiringOfCall, Accepted, countOf, due, dueEntries, written}
 
 -- demand 1, of one call: it is accepted exactly when every question gets a yes; refused, it names the first question that
 -- gets a no and leaves all lent memory as it was
@@ -27,7 +27,7 @@ pub record Logs (c : Call) : Type 0 where
   pub whole : written c ≡ words (entries (written c))
   pub beyond : outcomeOf c .log ≡ overlay (described c .log) 0 (written c)
   -- running the whole log gives exactly what the call left, and that is right
-  pub replays : described c .run (entries (written c)) ≡ outcomeOf c .buffer
+  pub replays : replay c (entries (written c)) ≡ outcomeOf c .buffer
   pub right : described c .Right (outcomeOf c .buffer)
 
 -- the log rule compares calls in one wiring (02, F-6), alike in kind and n

@@ -1,5 +1,6 @@
 pub mod Calls
 pub mod Demands
+pub mod Positions
 pub mod Carrying
 pub mod Month
 pub mod Charts

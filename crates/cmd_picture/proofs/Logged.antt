@@ -14,8 +14,8 @@ use Rattle.answers.proofs.Buffers.{overlay-front}
 use Rattle.bits.specs.Bits.{Bits}
 use Rattle.counts.specs.Counts.{W}
 use Rattle.network.specs.Wiring.{paper}
-use Rattle.network.specs.Log.{Entry, entry, entryWords, words, entryAt, applyEntries}
-use Rattle.network.proofs.Shape.{entryAt-front, length-applyEntries}
+use Rattle.network.specs.Log.{Entry, entryWords, words, entryAt, applyEntries}
+use Rattle.network.proofs.Shape.{none-such, entryAt-front, length-applyEntries}
 use Rattle.network.proofs.Paper.{paper-lawful}
 use Rattle.permutation.proofs.Tables.{is-tabulate}
 use Rattle.apply.specs.Calls.{applyCall}
@@ -43,17 +43,17 @@ abbrev markOf : Entry → ℕ → ℕ → ℕ
 markOf x bit place = mark (x .first) (x .second) bit place
 
 columns-at : (es : List Entry) (bits : List ℕ) (place e : ℕ) → e < length es
-    → getD (columns es bits place) e 0 ≡ markOf (getD es e (entry 0 0 0)) (getD bits e 0) place
+    → getD (columns es bits place) e 0 ≡ markOf (getD es e none-such) (getD bits e 0) place
 unfolding columns
 columns-at [] bits place e h = absurd (omega arith)
 columns-at (x ∷ es) bits place zero h = refl
 columns-at (x ∷ es) bits place (suc e) h =
     let z : 1 + e ≡ suc e = omega arith in
     let d : getD (drop 1 bits) e 0 ≡ getD bits (suc e) 0 = getD-drop 1 bits e 0 ∙ ap (λ i. getD bits i 0) z in
-    columns-at es (drop 1 bits) place e (omega arith) ∙ ap (λ v. markOf (getD es e (entry 0 0 0)) v place) d
+    columns-at es (drop 1 bits) place e (omega arith) ∙ ap (λ v. markOf (getD es e none-such) v place) d
 
 module _ (before : List ℕ) (es : List Entry) (bits : List ℕ) (count : length bits ≡ length es) {log : List ℕ} (written : log ≡ overlay before 0 (words es)) where
-  entry-in : (e : ℕ) → e < length es → entryAt log e ≡ getD es e (entry 0 0 0)
+  entry-in : (e : ℕ) → e < length es → entryAt log e ≡ getD es e none-such
   entry-in e h =
       ap (λ l. entryAt l e) (written ∙ overlay-front before (words es)) ∙ entryAt-front es (drop (length (words es)) before) e h
 

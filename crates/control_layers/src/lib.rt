@@ -27,8 +27,9 @@ pub fn step4(
     w: control_walk::Walk,
 ) -> control_walk::Walk
     requires { ⌜ (2 ≤ net .size) × Covers net (now vals) × Covers net (now trails)
-        × (w .b + (up (net .size) - 1) ≤ length (now bits)) × (entryWords * (w .e + 1) ≤ length (now log)) × Below 2 (now bits) ⌝ }
-    ensures { λ r. ⌜ Went (entry 4 (net .start) (net .size) ∷ []) (up (net .size) - 1) w r (now (log .entry)) (now (log .exit))
+        × (w .b + (up (net .size) - 1) ≤ length (now bits)) × (entryWords * (w .e + 1) ≤ length (now log)) × Below 2 (now bits)
+        × (w .b < 65536) ⌝ }
+    ensures { λ r. ⌜ Went (entry 4 (net .start) (net .size) (w .b) ∷ []) (up (net .size) - 1) w r (now (log .entry)) (now (log .exit))
         × ((ms : List ℕ)
         → state (now (vals .exit)) (now (trails .exit)) (each (λ i. i) (up (net .size)) (λ i mark. 0) ms) (now (bits .entry)) r
         ≡ step4 (wiringOf (net .topology)) (subnetworkOf net (w .b))
@@ -37,22 +38,25 @@ pub fn step4(
     let m = net.size;
     let k = (m + 1) / 2;
     control_sweeps::act_on(vals, trails, net, k - 1, bits, w.b);
-    entry_log::write_entry(log, w.e, 4, net.start, m);
+    entry_log::write_entry(log, w.e, 4, net.start, m, w.b);
     control_walk::passed(w, k - 1)
 }
 
-// 5. Each value keeps its pair and its trail gains its side (in the paper's wiring: each of k or more loses k and gains 1).
+// 5. Each value keeps its pair and its trail gains its side (in the paper's wiring: each of k or more loses k and gains 1). The walk has
+// passed the network's first bit: `first` is its position, for the log.
 pub fn step5(
     vals: &mut [u16],
     trails: &mut [u16],
     net: wirings::Net,
+    first: usize,
     log: &mut [u16],
     w: control_walk::Walk,
 ) -> control_walk::Walk
     requires { ⌜ (2 ≤ net .size) × Covers net (now vals) × Covers net (now trails)
         × (w .b < 18446744073709551616) × (entryWords * (w .e + 1) ≤ length (now log)) × Within (placeOf net) (net .size) 32768 (now vals)
-        × Within (placeOf net) (net .size) 32768 (now trails) ⌝ }
-    ensures { λ r. ⌜ Went (entry 5 (net .start) (net .size) ∷ []) 0 w r (now (log .entry)) (now (log .exit)) × ((ms bs : List ℕ) (bit : ℕ)
+        × Within (placeOf net) (net .size) 32768 (now trails) × (first < 65536) ⌝ }
+    ensures { λ r. ⌜ Went (entry 5 (net .start) (net .size) first ∷ []) 0 w r (now (log .entry)) (now (log .exit))
+        × ((ms bs : List ℕ) (bit : ℕ)
         → state (now (vals .exit)) (now (trails .exit)) ms bs r
         ≡ step5 (wiringOf (net .topology)) (subnetworkOf net bit) (state (now (vals .entry))
         (now (trails .entry)) ms bs w)) ⌝ }
@@ -60,7 +64,7 @@ pub fn step5(
     let m = net.size;
     let k = ((m + 1) / 2) as u16;
     control_sweeps::split_values(vals, trails, net, k);
-    entry_log::write_entry(log, w.e, 5, net.start, m);
+    entry_log::write_entry(log, w.e, 5, net.start, m, first);
     control_walk::passed(w, 0)
 }
 
@@ -90,14 +94,15 @@ pub fn step6(
     trails: &mut [u16],
     bits: &mut [u8],
     net: wirings::Net,
+    first: usize,
     log: &mut [u16],
     w: control_walk::Walk,
 ) -> control_walk::Walk
     requires { ⌜ (2 ≤ net .size) × Covers net (now vals) × Covers net (now trails)
         × (w .b + (net .size - up (net .size)) ≤ length (now bits)) × (entryWords * (w .e + 1) ≤ length (now log)) × Below 2 (now bits)
-        × Within (placeOf net) (net .size) 32768 (now vals) ⌝ }
-    ensures { λ r. ⌜ Went (entry 6 (net .start) (net .size) ∷ []) (net .size - up (net .size)) w r (now (log .entry)) (now (log .exit))
-        × ((ms : List ℕ) (bit : ℕ)
+        × Within (placeOf net) (net .size) 32768 (now vals) × (first < 65536) ⌝ }
+    ensures { λ r. ⌜ Went (entry 6 (net .start) (net .size) first ∷ []) (net .size - up (net .size)) w r
+        (now (log .entry)) (now (log .exit)) × ((ms : List ℕ) (bit : ℕ)
         → w .b ≡ outputBit (subnetworkOf net bit) → state (now (vals .exit)) (now (trails .exit)) ms (now (bits .exit)) r
         ≡ step6 (wiringOf (net .topology)) (subnetworkOf net bit)
         (state (now (vals .entry)) (now (trails .entry)) ms (now (bits .entry)) w)) ⌝ }
@@ -106,6 +111,6 @@ pub fn step6(
     let k = (m + 1) / 2;
     output_switches(vals, trails, bits, w.b, net);
     control_sweeps::join_values(vals, trails, net, k as u16);
-    entry_log::write_entry(log, w.e, 6, net.start, m);
+    entry_log::write_entry(log, w.e, 6, net.start, m, first);
     control_walk::passed(w, m - k)
 }

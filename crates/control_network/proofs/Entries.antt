@@ -64,9 +64,9 @@ pub small-gathered : (place : ℕ → ℕ) (m : ℕ) (xs row : List ℕ) → Wit
 unfolding Within Small
 small-gathered place m xs row h G i l = rw (G .at i l) (h i l)
 
-pub rounds-more : (i o m : ℕ) → rounds i o m ++ (entry 1 o m ∷ entry 2 o m ∷ entry 3 o m ∷ []) ≡ rounds (i + 1) o m
+pub rounds-more : (i o m b : ℕ) → rounds i o m b ++ (entry 1 o m b ∷ entry 2 o m b ∷ entry 3 o m b ∷ []) ≡ rounds (i + 1) o m b
 unfolding rounds
-rounds-more i o m = rw (add-one i)
+rounds-more i o m b = rw (add-one i)
 
 pub round-more : (w : Wiring) (N : Subnetwork) (i : ℕ) (x : State) → roundsOf w N 1 (roundsOf w N i x) ≡ roundsOf w N (i + 1) x
 unfolding roundsOf
@@ -74,13 +74,13 @@ round-more w N i x = rw (add-one i)
 
 -- ---- what comes before step 5
 
-pub input-none : (o m : ℕ) → m < 3 → [] ≡ inputEntries o m
+pub input-none : (o m b : ℕ) → m < 3 → [] ≡ inputEntries o m b
 unfolding inputEntries
-input-none o m h = rw (le-ltb 2 m (omega arith))
+input-none o m b h = rw (le-ltb 2 m (omega arith))
 
-pub input-some : (o m : ℕ) → 3 ≤ m → rounds (up m) o m ++ (entry 4 o m ∷ []) ≡ inputEntries o m
+pub input-some : (o m b : ℕ) → 3 ≤ m → rounds (up m) o m b ++ (entry 4 o m b ∷ []) ≡ inputEntries o m b
 unfolding inputEntries
-input-some o m h = rw (lt-ltb 2 m h)
+input-some o m b h = rw (lt-ltb 2 m h)
 
 pub steps-none : (w : Wiring) (N : Subnetwork) (x : State) → N .size < 3 → x ≡ inputSteps w N x
 unfolding inputSteps
@@ -102,22 +102,24 @@ module _ (w : Wiring) (place : ℕ → ℕ) (m : ℕ) where
   unfolding setNet
   net-none bit x h = rw (network-none m h, setNet)
 
-  pub entries-none : m < 2 → [] ≡ entriesOf w (network m) place
+  pub entries-none : (b : ℕ) → m < 2 → [] ≡ entriesOf w (network m) place b
   unfolding entriesOf
-  entries-none h = rw (network-none m h, entriesOf)
+  entries-none b h = rw (network-none m h, entriesOf)
 
   abbrev half : Bool → ℕ → ℕ
   half t = λ i. place (w .enc (up m) (i, t))
 
-  pub entries-split : (o : ℕ) → o ≡ place 0 → 2 ≤ m
-      → (inputEntries o m ++ (entry 5 o m ∷ []))
-      ++ (entriesOf w (network (up m)) (half false) ++ (entriesOf w (network (down m)) (half true) ++ (entry 6 o m ∷ [])))
-      ≡ entriesOf w (network m) place
+  -- b₁, b₂, b₃ are where the bits of a network's parts begin
+  pub entries-split : (o b b₁ b₂ : ℕ) → o ≡ place 0 → 2 ≤ m → b₁ ≡ b + (up m - 1) → b₂ ≡ b₁ + W (up m)
+      → (inputEntries o m b ++ (entry 5 o m b ∷ []))
+      ++ (entriesOf w (network (up m)) (half false) b₁ ++ (entriesOf w (network (down m)) (half true) b₂ ++ (entry 6 o m b ∷ [])))
+      ≡ entriesOf w (network m) place b
   unfolding entriesOf
-  entries-split o e two =
-      append-assoc (inputEntries o m) (entry 5 o m ∷ []) _ ∙ rw (network-more m two, entriesOf, e)
+  entries-split o b b₁ b₂ e two f₁ f₂ =
+      let at₂ : b₂ ≡ b + ((up m - 1) + switchCount (network (up m))) = omega (arith, count-is (up m)) in
+      append-assoc (inputEntries o m b) (entry 5 o m b ∷ []) _ ∙ rw (network-more m two, entriesOf, e, at₂, f₁)
 
-  -- a network's state after each of its parts; b₁, b₂, b₃ are where the bits of the parts begin
+  -- a network's state after each of its parts
   pub net-split : (b b₁ b₂ b₃ : ℕ) (x x₁ x₂ x₃ y : State) → 2 ≤ m
       → x₁ ≡ step5 w (lying place m b) (inputSteps w (lying place m b) x) → b₁ ≡ b + (up m - 1)
       → x₂ ≡ setNet w (network (up m)) (half false) b₁ x₁ → b₂ ≡ b₁ + W (up m)

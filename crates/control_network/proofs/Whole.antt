@@ -52,14 +52,16 @@ entering net b s = step5 (wiringOf (net .topology)) (subnetworkOf net b) (inputS
 -- they were done; and a network was
 abbrev pub Entered : Net → Walk → Walk → List ℕ → List ℕ → List ℕ → List ℕ → List ℕ → List ℕ → List ℕ → List ℕ → List ℕ → List ℕ → Type 0
 Entered net w r vs ts ps bs l vs′ ts′ ps′ bs′ l′ =
-    Done (inputEntries (net .start) (net .size) ++ (entry 5 (net .start) (net .size) ∷ [])) (up (net .size) - 1) (up (net .size))
+    Done (inputEntries (net .start) (net .size) (w .b) ++ (entry 5 (net .start) (net .size) (w .b) ∷ [])) (up (net .size) - 1)
+    (up (net .size))
     (entering net (w .b)) w r
     vs ts ps bs l vs′ ts′ ps′ bs′ l′
 
 abbrev pub Set : Topology → ℕ → (ℕ → ℕ) → Walk → Walk → List ℕ → List ℕ → List ℕ → List ℕ → List ℕ → List ℕ → List ℕ → List ℕ → List ℕ →
     List ℕ → Type 0
 Set t n place w r vs ts ps bs l vs′ ts′ ps′ bs′ l′ =
-    Done (entriesOf (wiringOf t) (network n) place) (W n) (up n) (setNet (wiringOf t) (network n) place (w .b)) w r vs ts ps bs l vs′ ts′
+    Done (entriesOf (wiringOf t) (network n) place (w .b)) (W n) (up n) (setNet (wiringOf t) (network n) place (w .b)) w r vs ts ps bs l
+    vs′ ts′
     ps′ bs′ l′
 
 abbrev pub Halved : Net → Walk → Walk → List ℕ → List ℕ → List ℕ → List ℕ → List ℕ → List ℕ → List ℕ → List ℕ → List ℕ → List ℕ → Type 0
@@ -79,14 +81,15 @@ module _ (net : Net) (w : Walk) (vs ts ps bs l : List ℕ) (two : 2 ≤ net .siz
   abbrev half : Bool → ℕ → ℕ
   half t = λ i. placeOf net (sideOf net (i, t))
 
-  eparts : length (inputEntries (net .start) m) + (1 + (E (up m) + (E (down m) + 1))) ≡ E m
-  eparts = E-parts (net .start) m two
+  eparts : length (inputEntries (net .start) m (w .b)) + (1 + (E (up m) + (E (down m) + 1))) ≡ E m
+  eparts = E-parts (net .start) m (w .b) two
 
   wparts : (up m - 1) + (W (up m) + (W (down m) + down m)) ≡ W m
   wparts = W-parts m two
 
-  front-length : length (inputEntries (net .start) m ++ (entry 5 (net .start) m ∷ [])) ≡ length (inputEntries (net .start) m) + 1
-  front-length = length-append (inputEntries (net .start) m) (entry 5 (net .start) m ∷ [])
+  front-length : length (inputEntries (net .start) m (w .b) ++ (entry 5 (net .start) m (w .b) ∷ []))
+      ≡ length (inputEntries (net .start) m (w .b)) + 1
+  front-length = length-append (inputEntries (net .start) m (w .b)) (entry 5 (net .start) m (w .b) ∷ [])
 
   few : m ≤ 1024
   few = small (R .values-room) two .0
@@ -178,7 +181,7 @@ module _ (net : Net) (w : Walk) (vs ts ps bs l : List ℕ) (two : 2 ≤ net .siz
         {bottom : Net}
         (B : IsHalf net true bottom) where
       count₂ : y .e ≡ x .e + E (up m)
-      count₂ = omega (arith, D₂ .went .count, length-entries wiring (sized (up m)) (half false))
+      count₂ = omega (arith, D₂ .went .count, length-entries wiring (sized (up m)) (half false) (x .b))
 
       pub room-bottom : Room bottom y vs₂ ts₂ ps₂ bs₂ l₂
       room-bottom =
@@ -250,7 +253,7 @@ module _ (net : Net) (w : Walk) (vs ts ps bs l : List ℕ) (two : 2 ≤ net .siz
           {vs₃ ts₃ ps₃ bs₃ l₃ : List ℕ}
           (D₃ : Set (net .topology) (down m) (half true) y z vs₂ ts₂ ps₂ bs₂ l₂ vs₃ ts₃ ps₃ bs₃ l₃) where
         count₃ : z .e ≡ y .e + E (down m)
-        count₃ = omega (arith, D₃ .went .count, length-entries wiring (sized (down m)) (half true))
+        count₃ = omega (arith, D₃ .went .count, length-entries wiring (sized (down m)) (half true) (y .b))
 
         -- the bottom's steps
         abbrev below : State
@@ -292,7 +295,7 @@ module _ (net : Net) (w : Walk) (vs ts ps bs l : List ℕ) (two : 2 ≤ net .siz
 
         -- what step 6 asks
         pub asks-six : (2 ≤ m) × Covers net vs₃ × Covers net ts₃ × (z .b + down m ≤ length bs₃) × (entryWords * (z .e + 1) ≤ length l₃)
-            × Below 2 bs₃ × Within (placeOf net) m 32768 vs₃
+            × Below 2 bs₃ × Within (placeOf net) m 32768 vs₃ × (w .b < 65536)
         asks-six = (
           two,
           covers-kept vs₃ (D₃ .values-kept ∙ D₂ .values-kept ∙ D .values-kept) (R .values-room),
@@ -301,15 +304,18 @@ module _ (net : Net) (w : Walk) (vs ts ps bs l : List ℕ) (two : 2 ≤ net .siz
           omega (arith, R .log-room, D .log-kept, D₂ .log-kept, D₃ .log-kept, D .went .count, count₂, count₃, front-length, eparts),
           tidy₃ .bits-below,
           values₃,
+          omega (arith, R .few),
         )
 
         module _ {r : Walk}
             {vs₄ ts₄ bs₄ l₄ : List ℕ}
-            (G : Went (entry 6 (net .start) m ∷ []) (down m) z r l₃ l₄)
+            (G : Went (entry 6 (net .start) m (w .b) ∷ []) (down m) z r l₃ l₄)
             (six : (ms : List ℕ) → z .b ≡ outputBit N → state vs₄ ts₄ ms bs₄ r ≡ step6 wiring N (state vs₃ ts₃ ms bs₃ z)) where
-          pub whole-log : Went (entriesOf wiring (network m) (placeOf net)) (W m) w r l l₄
+          pub whole-log : Went (entriesOf wiring (network m) (placeOf net) (w .b)) (W m) w r l l₄
           whole-log =
-              went-as (entries-split wiring (placeOf net) m (net .start) (omega arith) two) wparts
+              went-as
+              (entries-split wiring (placeOf net) m (net .start) (w .b) (x .b) (y .b) (omega arith) two (D .went .bit) (D₂ .went .bit))
+              wparts
               (went-then (omega (arith, R .log-room, front-length, eparts)) (D .went)
               (went-then (omega (
                 arith,
@@ -319,7 +325,7 @@ module _ (net : Net) (w : Walk) (vs ts ps bs l : List ℕ) (two : 2 ≤ net .siz
                 front-length,
                 eparts,
                 length-entries wiring
-                    (sized (up m)) (half false),
+                    (sized (up m)) (half false) (x .b),
               )) (D₂ .went)
               (went-then
               (omega (
@@ -332,7 +338,7 @@ module _ (net : Net) (w : Walk) (vs ts ps bs l : List ℕ) (two : 2 ≤ net .siz
                 front-length,
                 eparts,
                 length-entries wiring
-                    (sized (down m)) (half true),
+                    (sized (down m)) (half true) (y .b),
               ))
               (D₃ .went) G)))
 

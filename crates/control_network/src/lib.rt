@@ -31,9 +31,10 @@ fn round(
 ) -> control_walk::Walk
     requires { ⌜ (2 ≤ net .size) × (net .size ≤ 1024) × (net .start ≤ 1024) × (512 ≤ length (now pairs))
         × (entryWords * (w .e + 3) ≤ length (now log))
-        × Small (net .size) (now row) × Padded (net .size) (now row) × Held (up (net .size)) (now pairs) w ⌝ }
-    ensures { λ r. ⌜ Went (entry 1 (net .start) (net .size) ∷ entry 2 (net .start) (net .size) ∷ entry 3 (net .start) (net .size) ∷ [])
-        0 w r (now (log .entry)) (now (log .exit))
+        × Small (net .size) (now row) × Padded (net .size) (now row) × Held (up (net .size)) (now pairs) w
+        × (w .b < 65536) ⌝ }
+    ensures { λ r. ⌜ Went (entry 1 (net .start) (net .size) (w .b) ∷ entry 2 (net .start) (net .size) (w .b)
+        ∷ entry 3 (net .start) (net .size) (w .b) ∷ []) 0 w r (now (log .entry)) (now (log .exit))
         × Held (up (net .size)) (now (pairs .exit)) r × ((place : ℕ → ℕ) (vs ts ms bs : List ℕ) (bit : ℕ)
         → Gathered place (net .size) vs (now (row .entry)) → up (net .size) ≤ length ms
         → state vs ts (marksIn (up (net .size)) (now (pairs .exit)) ms) (bitsIn bit (up (net .size) - 1) (now (pairs .exit)) bs) r
@@ -56,8 +57,9 @@ fn rounds(
 ) -> control_walk::Walk
     requires { ⌜ (2 ≤ net .size) × (net .size ≤ 1024) × (net .start ≤ 1024) × (512 ≤ length (now pairs))
         × (entryWords * (w .e + 3 * up (net .size)) ≤ length (now log))
-        × Small (net .size) (now row) × Padded (net .size) (now row) × Held (up (net .size)) (now pairs) w ⌝ }
-    ensures { λ r. ⌜ Went (rounds (up (net .size)) (net .start) (net .size)) 0 w r (now (log .entry)) (now (log .exit))
+        × Small (net .size) (now row) × Padded (net .size) (now row) × Held (up (net .size)) (now pairs) w
+        × (w .b < 65536) ⌝ }
+    ensures { λ r. ⌜ Went (rounds (up (net .size)) (net .start) (net .size) (w .b)) 0 w r (now (log .entry)) (now (log .exit))
         × Held (up (net .size)) (now (pairs .exit)) r × ((place : ℕ → ℕ) (vs ts ms bs : List ℕ) (bit : ℕ)
         → Gathered place (net .size) vs (now (row .entry)) → up (net .size) ≤ length ms
         → state vs ts (marksIn (up (net .size)) (now (pairs .exit)) ms) (bitsIn bit (up (net .size) - 1) (now (pairs .exit)) bs) r
@@ -87,8 +89,8 @@ fn settle_inputs(
 ) -> control_walk::Walk
     requires { ⌜ (2 ≤ net .size) × Covers net (now vals) × (512 ≤ length (now pairs))
         × (w .b + (up (net .size) - 1) ≤ length (now bits)) × (entryWords * (w .e + 3 * up (net .size)) ≤ length (now log))
-        × Within (placeOf net) (net .size) 32768 (now vals) × (w .f < 32768) × (w .c < 32768) ⌝ }
-    ensures { λ r. ⌜ Went (rounds (up (net .size)) (net .start) (net .size)) 0 w r (now (log .entry)) (now (log .exit))
+        × Within (placeOf net) (net .size) 32768 (now vals) × (w .f < 32768) × (w .c < 32768) × (w .b < 65536) ⌝ }
+    ensures { λ r. ⌜ Went (rounds (up (net .size)) (net .start) (net .size) (w .b)) 0 w r (now (log .entry)) (now (log .exit))
         × ((ts : List ℕ) (j : ℕ) → up (net .size) ≤ j
         → state (now (vals .entry)) ts (marksIn (up (net .size)) (now (pairs .exit)) (replicate j 0)) (now (bits .exit)) r
         ≡ roundsOf (wiringOf (net .topology)) (subnetworkOf net (w .b)) (up (net .size))
@@ -117,7 +119,7 @@ fn input_steps(
     requires { ⌜ (2 ≤ net .size) × Room net w (now vals) (now trails) (now pairs) (now bits) (now log)
         × Tidy (unmarked 512 (now vals) (now trails) (now bits) w)
         × Ordered (subnetworkOf net (w .b)) (unmarked 512 (now vals) (now trails) (now bits) w) ⌝ }
-    ensures { λ r. ⌜ Went (inputEntries (net .start) (net .size)) (up (net .size) - 1) w r (now (log .entry)) (now (log .exit))
+    ensures { λ r. ⌜ Went (inputEntries (net .start) (net .size) (w .b)) (up (net .size) - 1) w r (now (log .entry)) (now (log .exit))
         × ((j : ℕ) → up (net .size) ≤ j
         → unmarked j (now (vals .exit)) (now (trails .exit)) (now (bits .exit)) r
         ≡ inputSteps (wiringOf (net .topology)) (subnetworkOf net (w .b))
@@ -145,15 +147,16 @@ fn enter(
         × Tidy (unmarked 512 (now vals) (now trails) (now bits) w)
         × Ordered (subnetworkOf net (w .b)) (unmarked 512 (now vals) (now trails) (now bits) w)
         × Lengthens (placeOf net) (net .size) (now trails) ⌝ }
-    ensures { λ r. ⌜ Went (inputEntries (net .start) (net .size)
-        ++ (entry 5 (net .start) (net .size) ∷ [])) (up (net .size) - 1) w r (now (log .entry)) (now (log .exit))
+    ensures { λ r. ⌜ Went (inputEntries (net .start) (net .size) (w .b)
+        ++ (entry 5 (net .start) (net .size) (w .b) ∷ [])) (up (net .size) - 1) w r (now (log .entry)) (now (log .exit))
         × ((j : ℕ) → up (net .size) ≤ j → unmarked j (now (vals .exit)) (now (trails .exit)) (now (bits .exit)) r
         ≡ step5 (wiringOf (net .topology)) (subnetworkOf net (w .b))
         (inputSteps (wiringOf (net .topology)) (subnetworkOf net (w .b)) (unmarked j (now (vals .entry))
         (now (trails .entry)) (now (bits .entry)) w))) ⌝ }
 {
+    let first = w.b; // of the network's bits
     let x = input_steps(vals, trails, pairs, row, bits, net, log, w);
-    control_layers::step5(vals, trails, net, log, x)
+    control_layers::step5(vals, trails, net, first, log, x)
 }
 
 // The network at its places, whose bits begin at w.b. No pair is marked before it, nor after it.
@@ -171,7 +174,7 @@ pub fn set_network(
         × Tidy (unmarked 512 (now vals) (now trails) (now bits) w)
         × Ordered (subnetworkOf net (w .b)) (unmarked 512 (now vals) (now trails) (now bits) w)
         × Lengthens (placeOf net) (net .size) (now trails) ⌝ }
-    ensures { λ r. ⌜ Went (entriesOf (wiringOf (net .topology)) (network (net .size)) (placeOf net)) (W (net .size)) w r
+    ensures { λ r. ⌜ Went (entriesOf (wiringOf (net .topology)) (network (net .size)) (placeOf net) (w .b)) (W (net .size)) w r
         (now (log .entry)) (now (log .exit))
         × ((j : ℕ) → up (net .size) ≤ j → unmarked j (now (vals .exit)) (now (trails .exit)) (now (bits .exit)) r
         ≡ setNet (wiringOf (net .topology)) (network (net .size)) (placeOf net) (w .b) (unmarked j (now (vals .entry)) (now (trails .entry))
@@ -180,8 +183,9 @@ pub fn set_network(
     if net.size < 2 {
         return w;
     }
+    let first = w.b; // of the network's bits
     let x = enter(vals, trails, pairs, row, bits, net, log, w);
     let y = set_network(vals, trails, pairs, row, bits, wirings::top(net), log, x);
     let z = set_network(vals, trails, pairs, row, bits, wirings::bottom(net), log, y);
-    control_layers::step6(vals, trails, bits, net, log, z)
+    control_layers::step6(vals, trails, bits, net, first, log, z)
 }

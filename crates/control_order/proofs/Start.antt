@@ -113,7 +113,7 @@ start-is order vs ts bs e₁ e₂ e₃ = rw (e₁, e₂, e₃)
 pub sets-whole : (t : Topology) (order vs ts bs bits log bits′ log′ : List ℕ) (vs′ ts′ : List ℕ) (r : Walk)
     → vs ≡ order → ts ≡ replicate {A = ℕ} (length order) 0
     → bs ≡ each (λ i. i) (length bits) (λ i x. 0) bits → length bits ≡ W (length order)
-    → Went (entriesOf (wiringOf t) (network (length order)) (placeOf (wholeOf t (length order)))) (W (length order)) still r log log′
+    → Went (entriesOf (wiringOf t) (network (length order)) (placeOf (wholeOf t (length order))) 0) (W (length order)) still r log log′
     → ((j : ℕ) → up (length order) ≤ j
     → unmarked j vs′ ts′ bits′ r ≡ setNet (wiringOf t) (network (length order)) (placeOf (wholeOf t (length order))) 0
     (unmarked j vs ts bs still))
@@ -125,12 +125,12 @@ sets-whole t order vs ts bs bits log bits′ log′ vs′ ts′ r e₁ e₂ e₄
     let before : State = unmarked (up n) vs ts bs still in
     let s : before ≡ start order = start-is order vs ts bs e₁ e₂ (e₄ ∙ cleared bits (W n) l) in
     record {
-      count = omega (arith, G .count, length-entries (wiringOf t) (sized n) (placeOf (wholeOf t n)));
+      count = omega (arith, G .count, length-entries (wiringOf t) (sized n) (placeOf (wholeOf t n)) 0);
       bits-are =
           ap (λ (x : State). x .bits) (S (up n) (omega arith) ∙ ap (λ (p : ℕ → ℕ). setNet (wiringOf t) (network n) p 0 before) q)
           ∙ ap (λ (x : State). setNet (wiringOf t) (network n) (λ i. i) 0 x .bits) s
           ∙ ap (λ (x : State). x .bits) (sym (run-is-fold (wiringOf t) (lawful t) n (start order)));
-      log-is = G .log ∙ ap (λ (p : ℕ → ℕ). overlay log 0 (words (entriesOf (wiringOf t) (network n) p))) q;
+      log-is = G .log ∙ ap (λ (p : ℕ → ℕ). overlay log 0 (words (entriesOf (wiringOf t) (network n) p 0))) q;
     }
 
 -- and the room that it starts with

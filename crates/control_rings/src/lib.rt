@@ -26,8 +26,8 @@ pub fn step1(
     w: control_walk::Walk,
 ) -> control_walk::Walk
     requires { ⌜ (2 ≤ net .size) × (net .size ≤ 1024) × (net .start ≤ 1024) × (entryWords * (w .e + 1) ≤ length (now log))
-        × Small (net .size) (now row) × (w .f < 32768) × (w .c < 32768) × (w .any < 2) ⌝ }
-    ensures { λ r. ⌜ Went (entry 1 (net .start) (net .size) ∷ []) 0 w r (now (log .entry)) (now (log .exit)) × (r .any ≡ w .any)
+        × Small (net .size) (now row) × (w .f < 32768) × (w .c < 32768) × (w .any < 2) × (w .b < 65536) ⌝ }
+    ensures { λ r. ⌜ Went (entry 1 (net .start) (net .size) (w .b) ∷ []) 0 w r (now (log .entry)) (now (log .exit)) × (r .any ≡ w .any)
         × ((r .f < 32768) × (r .c < 32768) × (r .g < 32768)) × ((place : ℕ → ℕ) (vs ts ms bs : List ℕ) (bit : ℕ)
         → Gathered place (net .size) vs (now (row .entry)) → w .any ≡ digit (not (noneMarked ms (up (net .size))))
         → state vs ts ms bs r ≡ step1 (wiringOf (net .topology)) (lying place (net .size) bit) (state vs ts ms bs w)) ⌝ }
@@ -40,7 +40,7 @@ pub fn step1(
     let c = control_numbers::pick(w.any, w.c, last);
     let g = control_rows::look_in(row, m, f);
     let e = w.e;
-    entry_log::write_entry(log, e, 1, net.start, m);
+    entry_log::write_entry(log, e, 1, net.start, m, w.b);
     control_walk::Walk {
         f,
         c,
@@ -60,8 +60,8 @@ pub fn step2(
     w: control_walk::Walk,
 ) -> control_walk::Walk
     requires { ⌜ (2 ≤ net .size) × (net .size ≤ 1024) × (net .start ≤ 1024) × (entryWords * (w .e + 1) ≤ length (now log))
-        × Padded (net .size) (now row) × (w .g < 32768) ⌝ }
-    ensures { λ r. ⌜ Went (entry 2 (net .start) (net .size) ∷ []) 0 w r (now (log .entry)) (now (log .exit)) × (r .any ≡ w .any)
+        × Padded (net .size) (now row) × (w .g < 32768) × (w .b < 65536) ⌝ }
+    ensures { λ r. ⌜ Went (entry 2 (net .start) (net .size) (w .b) ∷ []) 0 w r (now (log .entry)) (now (log .exit)) × (r .any ≡ w .any)
         × ((r .f ≡ w .f) × (r .c ≡ w .c) × (r .s < 32768)) × ((place : ℕ → ℕ) (vs ts ms bs : List ℕ) (bit : ℕ)
         → Gathered place (net .size) vs (now (row .entry)) → state vs ts ms bs r
         ≡ step2 (wiringOf (net .topology)) (lying place (net .size) bit) (state vs ts ms bs w)) ⌝ }
@@ -71,7 +71,7 @@ pub fn step2(
     let k = ((m + 1) / 2) as u16;
     let s = control_rows::seek_in(row, m, control_sides::other_of(t, k, w.g));
     let e = w.e;
-    entry_log::write_entry(log, e, 2, net.start, m);
+    entry_log::write_entry(log, e, 2, net.start, m, w.b);
     control_walk::Walk {
         f: w.f,
         c: w.c,
@@ -119,8 +119,8 @@ pub fn step3(
 ) -> control_walk::Walk
     requires { ⌜ (2 ≤ net .size) × (net .size ≤ 1024) × (net .start ≤ 1024) × (512 ≤ length (now pairs))
         × (entryWords * (w .e + 1) ≤ length (now log))
-        × Held (up (net .size)) (now pairs) w × (w .s < 32768) ⌝ }
-    ensures { λ r. ⌜ Went (entry 3 (net .start) (net .size) ∷ []) 0 w r (now (log .entry)) (now (log .exit))
+        × Held (up (net .size)) (now pairs) w × (w .s < 32768) × (w .b < 65536) ⌝ }
+    ensures { λ r. ⌜ Went (entry 3 (net .start) (net .size) (w .b) ∷ []) 0 w r (now (log .entry)) (now (log .exit))
         × Held (up (net .size)) (now (pairs .exit)) r
         × ((place : ℕ → ℕ) (vs ts ms bs : List ℕ) (bit : ℕ) → up (net .size) ≤ length ms
         → state vs ts (marksIn (up (net .size)) (now (pairs .exit)) ms) (bitsIn bit (up (net .size) - 1) (now (pairs .exit)) bs) r
@@ -135,6 +135,6 @@ pub fn step3(
     let bit = 1 - control_sides::side_of(t, few, w.s);
     let low = control_pairs::settle(pairs, k, pair, bit);
     let any = w.any | control_numbers::below(pair, few);
-    entry_log::write_entry(log, w.e, 3, net.start, m);
+    entry_log::write_entry(log, w.e, 3, net.start, m, w.b);
     turn(t, few, low, any, w)
 }

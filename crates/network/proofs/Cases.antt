@@ -4,21 +4,21 @@
 use mathlib.Core.Path.{_≡_, refl}
 use mathlib.Core.List.{List, [], _∷_, map}
 use Prim.Native.Nat.{ℕ}
-use Rattle.counts.specs.Counts.{W, byHalves}
 use Rattle.permutation.specs.Permutations.{tabulate}
 use Rattle.network.specs.Wiring.{Wiring, paper, neighbour}
 use Rattle.network.specs.Network.{network, networkIn, switchCount}
 use Rattle.network.specs.Move.{switch, layer, layerBack, part, joined, forward, backward}
 use Rattle.network.specs.Blocks.{cut, bytesOf, moved, movedBack, orderOf}
-use Rattle.network.specs.Log.{words, layerEntries, switches, applyEntries, inverseEntries, runEntry, runFrom, runApply, runInverse}
+use Rattle.network.specs.Log.{words, layerEntries, switches, applyEntries, inverseEntries, runEntry, run}
 
 -- what differs from wiring to wiring: the settings of cases d and g, and the words of logs
 pub record InWiring : Type 0 where
   pub wiring : Wiring
   pub d : List ℕ
   pub g : List ℕ
-  -- of mixing three blocks
+  -- of mixing three blocks, and of returning them
   pub three : List ℕ
+  pub threeBack : List ℕ
   -- of mixing four blocks: the top's switch is logged before the bottom's; and of returning them
   pub four : List ℕ
   pub fourBack : List ℕ
@@ -29,9 +29,10 @@ inPaper =
       wiring = paper;
       d = 0 ∷ 1 ∷ 1 ∷ [];
       g = 0 ∷ 0 ∷ 0 ∷ 1 ∷ 0 ∷ 0 ∷ 0 ∷ 1 ∷ 1 ∷ 1 ∷ 1 ∷ 0 ∷ 1 ∷ 0 ∷ 1 ∷ 0 ∷ 1 ∷ 1 ∷ 1 ∷ 0 ∷ 0 ∷ [];
-      three = 7 ∷ 0 ∷ 2 ∷ 7 ∷ 0 ∷ 1 ∷ 7 ∷ 0 ∷ 2 ∷ [];
-      four = 7 ∷ 0 ∷ 2 ∷ 7 ∷ 0 ∷ 1 ∷ 7 ∷ 2 ∷ 3 ∷ 7 ∷ 0 ∷ 2 ∷ 7 ∷ 1 ∷ 3 ∷ [];
-      fourBack = 7 ∷ 1 ∷ 3 ∷ 7 ∷ 0 ∷ 2 ∷ 7 ∷ 2 ∷ 3 ∷ 7 ∷ 0 ∷ 1 ∷ 7 ∷ 0 ∷ 2 ∷ [];
+      three = 7 ∷ 0 ∷ 2 ∷ 0 ∷ 7 ∷ 0 ∷ 1 ∷ 1 ∷ 7 ∷ 0 ∷ 2 ∷ 2 ∷ [];
+      threeBack = 7 ∷ 0 ∷ 2 ∷ 2 ∷ 7 ∷ 0 ∷ 1 ∷ 1 ∷ 7 ∷ 0 ∷ 2 ∷ 0 ∷ [];
+      four = 7 ∷ 0 ∷ 2 ∷ 0 ∷ 7 ∷ 0 ∷ 1 ∷ 1 ∷ 7 ∷ 2 ∷ 3 ∷ 2 ∷ 7 ∷ 0 ∷ 2 ∷ 3 ∷ 7 ∷ 1 ∷ 3 ∷ 4 ∷ [];
+      fourBack = 7 ∷ 1 ∷ 3 ∷ 4 ∷ 7 ∷ 0 ∷ 2 ∷ 3 ∷ 7 ∷ 2 ∷ 3 ∷ 2 ∷ 7 ∷ 0 ∷ 1 ∷ 1 ∷ 7 ∷ 0 ∷ 2 ∷ 0 ∷ [];
     }
 
 abbrev pub inNeighbour : InWiring
@@ -40,9 +41,10 @@ inNeighbour =
       wiring = neighbour;
       d = 1 ∷ 1 ∷ 0 ∷ [];
       g = 0 ∷ 0 ∷ 1 ∷ 0 ∷ 1 ∷ 1 ∷ 1 ∷ 1 ∷ 1 ∷ 1 ∷ 1 ∷ 0 ∷ 0 ∷ 0 ∷ 1 ∷ 1 ∷ 0 ∷ 1 ∷ 1 ∷ 0 ∷ 0 ∷ [];
-      three = 7 ∷ 0 ∷ 1 ∷ 7 ∷ 0 ∷ 2 ∷ 7 ∷ 0 ∷ 1 ∷ [];
-      four = 7 ∷ 0 ∷ 1 ∷ 7 ∷ 0 ∷ 2 ∷ 7 ∷ 1 ∷ 3 ∷ 7 ∷ 0 ∷ 1 ∷ 7 ∷ 2 ∷ 3 ∷ [];
-      fourBack = 7 ∷ 2 ∷ 3 ∷ 7 ∷ 0 ∷ 1 ∷ 7 ∷ 1 ∷ 3 ∷ 7 ∷ 0 ∷ 2 ∷ 7 ∷ 0 ∷ 1 ∷ [];
+      three = 7 ∷ 0 ∷ 1 ∷ 0 ∷ 7 ∷ 0 ∷ 2 ∷ 1 ∷ 7 ∷ 0 ∷ 1 ∷ 2 ∷ [];
+      threeBack = 7 ∷ 0 ∷ 1 ∷ 2 ∷ 7 ∷ 0 ∷ 2 ∷ 1 ∷ 7 ∷ 0 ∷ 1 ∷ 0 ∷ [];
+      four = 7 ∷ 0 ∷ 1 ∷ 0 ∷ 7 ∷ 0 ∷ 2 ∷ 1 ∷ 7 ∷ 1 ∷ 3 ∷ 2 ∷ 7 ∷ 0 ∷ 1 ∷ 3 ∷ 7 ∷ 2 ∷ 3 ∷ 4 ∷ [];
+      fourBack = 7 ∷ 2 ∷ 3 ∷ 4 ∷ 7 ∷ 0 ∷ 1 ∷ 3 ∷ 7 ∷ 1 ∷ 3 ∷ 2 ∷ 7 ∷ 0 ∷ 2 ∷ 1 ∷ 7 ∷ 0 ∷ 1 ∷ 0 ∷ [];
     }
 
 -- the same of both wirings
@@ -68,25 +70,29 @@ unfolding network networkIn switchCount switch layerBack part joined backward ta
 case-order = refl
 
 pub case-log : both (λ c. words (applyEntries (c .wiring) 3)) ≡ both (λ c. c .three)
-unfolding network networkIn words layerEntries switches applyEntries
+unfolding network networkIn switchCount words layerEntries switches applyEntries
 case-log = refl
 
+pub case-log-three-back : both (λ c. words (inverseEntries (c .wiring) 3)) ≡ both (λ c. c .threeBack)
+unfolding network networkIn switchCount words layerEntries switches applyEntries inverseEntries
+case-log-three-back = refl
+
 pub case-log-four : both (λ c. words (applyEntries (c .wiring) 4)) ≡ both (λ c. c .four)
-unfolding network networkIn words layerEntries switches applyEntries
+unfolding network networkIn switchCount words layerEntries switches applyEntries
 case-log-four = refl
 
 -- returning them does the same list backwards
 pub case-log-back : both (λ c. words (inverseEntries (c .wiring) 4)) ≡ both (λ c. c .fourBack)
-unfolding network networkIn words layerEntries switches applyEntries inverseEntries
+unfolding network networkIn switchCount words layerEntries switches applyEntries inverseEntries
 case-log-back = refl
 
 -- the logs of cases h and i, run
-pub case-run : both (λ c. runApply 0 (c .g) (applyEntries (c .wiring) 9) abcdefghi) ≡ both (λ c. hfbcieadg)
-unfolding network networkIn layerEntries switches applyEntries switch runEntry runFrom runApply
+pub case-run : both (λ c. run 0 (c .g) (applyEntries (c .wiring) 9) abcdefghi) ≡ both (λ c. hfbcieadg)
+unfolding network networkIn switchCount layerEntries switches applyEntries switch runEntry run
 case-run = refl
 
-pub case-run-back : both (λ c. runInverse 0 9 (c .g) (inverseEntries (c .wiring) 9) hfbcieadg) ≡ both (λ c. abcdefghi)
-unfolding W byHalves network networkIn layerEntries switches applyEntries inverseEntries switch runEntry runFrom runInverse
+pub case-run-back : both (λ c. run 0 (c .g) (inverseEntries (c .wiring) 9) hfbcieadg) ≡ both (λ c. abcdefghi)
+unfolding network networkIn switchCount layerEntries switches applyEntries inverseEntries switch runEntry run
 case-run-back = refl
 
 -- three blocks of two bytes under case d's setting: ab, cd, ef become ef, ab, cd

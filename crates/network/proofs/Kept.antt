@@ -14,7 +14,7 @@ use Rattle.network.specs.Wiring.{Wiring, Lawful}
 use Rattle.network.specs.Network.{network}
 use Rattle.network.specs.Move.{switch, forward, backward}
 use Rattle.network.specs.Blocks.{cut, moved, movedBack}
-use Rattle.network.specs.Log.{Entry, runEntry, runFrom, runApply}
+use Rattle.network.specs.Log.{Entry, runEntry, run}
 use Rattle.network.proofs.Shape.{length-backward}
 use Rattle.network.proofs.Blocks.{length-cut}
 use Rattle.network.proofs.Undo.{forward-backward}
@@ -109,29 +109,30 @@ module _
 -- ---- mixing and returning
 
 module _ {A : Type 0} (d : A) {B : Type 0} (F : List A → B) (keeps : Kept d F) where
-  entry-keeps : (bit : ℕ) (e : Entry) (xs : List A) → e .first < length xs → e .second < length xs → F (runEntry d bit e xs) ≡ F xs
+  entry-keeps : (bits : List ℕ) (e : Entry) (xs : List A) → e .first < length xs → e .second < length xs → F (runEntry d bits e xs) ≡ F xs
   unfolding runEntry
-  entry-keeps bit e xs p q = go (eqb (e .kind) 7) (eqb bit 1) refl
+  entry-keeps bits e xs p q = go (eqb (e .kind) 7) (eqb bit 1) refl
     where
+      bit : ℕ
+      bit = getD bits (e .bit) 0
+
       go : (b t : Bool) → eqb bit 1 ≡ t → F (cond b (switch d (e .first) (e .second) bit xs) xs) ≡ F xs
       go true true o = ap (λ (s : ℕ). F (switch d (e .first) (e .second) s xs)) (eqb-true bit 1 o) ∙ keeps (e .first) (e .second) xs p q
       go true false o = ap F (switch-left d (e .first) (e .second) bit xs o)
       go false t o = refl
 
   run-keeps :
-      (bit : ℕ → ℕ) (i : ℕ) {n : ℕ} {es : List Entry} → Below n es → (xs : List A) → length xs ≡ n
-      → F (runFrom d bit i es xs) ≡ F xs
-  unfolding runFrom
-  run-keeps bit i empty xs l = refl
-  run-keeps bit i (also {e = e} {es = es} p q b) xs l =
-      run-keeps bit (suc i) b (runEntry d (bit i) e xs) (length-runEntry d (bit i) e xs ∙ l)
-      ∙ entry-keeps (bit i) e xs (omega arith) (omega arith)
+      (bits : List ℕ) {n : ℕ} {es : List Entry} → Below n es → (xs : List A) → length xs ≡ n
+      → F (run d bits es xs) ≡ F xs
+  unfolding run
+  run-keeps bits empty xs l = refl
+  run-keeps bits (also {e = e} {es = es} p q b) xs l =
+      run-keeps bits b (runEntry d bits e xs) (length-runEntry d bits e xs ∙ l)
+      ∙ entry-keeps bits e xs (omega arith) (omega arith)
 
   module _ {w : Wiring} (L : Lawful w) (n : ℕ) (bits : List ℕ) where
     pub forward-keeps : (xs : List A) → length xs ≡ n → F (forward d w (network n) bits xs) ≡ F xs
-    unfolding runApply
-    forward-keeps xs e =
-        ap F (sym (run-apply d L n bits xs e)) ∙ run-keeps (λ i. getD bits i 0) 0 (below-apply L n) xs e
+    forward-keeps xs e = ap F (sym (run-apply d L n bits xs e)) ∙ run-keeps bits (below-apply L n) xs e
 
     -- mixing what was returned gives back what it was
     pub backward-keeps : (xs : List A) → length xs ≡ n → F (backward d w (network n) bits xs) ≡ F xs

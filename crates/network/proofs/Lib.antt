@@ -12,5 +12,6 @@ pub mod Moved
 pub mod Alike
 pub mod Run
 pub mod RunBack
+pub mod Positions
 pub mod Kept
 pub mod Shift

@@ -5,7 +5,7 @@ use mathlib.Core.Path.{_≡_, refl, sym, ap, _∙_}
 use mathlib.Core.Logic.{_≢_}
 use mathlib.Core.List.{List, [], _∷_, _++_}
 use Prim.Native.Nat.{ℕ, zero, suc, _+_, _-_, _≤_, _<_}
-use native.Mathlib.Nat.{add-zero, zero-add}
+use native.Mathlib.Nat.{zero-add}
 use native.Mathlib.Omega.{arith}
 use lib.ListN.{length, getD, drop}
 use lib.Seq.{ext-getD, getD-drop}
@@ -13,8 +13,8 @@ use Rattle.counts.specs.Counts.{up}
 use Rattle.network.specs.Wiring.{Wiring, Lawful, Side}
 use Rattle.network.specs.Network.{Network, split, network, switchCount, down}
 use Rattle.network.specs.Move.{layer, forward}
-use Rattle.network.specs.Log.{Entry, layerEntries, switches, applyEntries, runEntry, runFrom, runApply}
-use Rattle.network.proofs.Shape.{Sized, none, some, sized, length-layer, length-layerEntries, length-switches, length-forward}
+use Rattle.network.specs.Log.{Entry, entry, layerEntries, switches, applyEntries, runEntry, run}
+use Rattle.network.proofs.Shape.{Sized, none, some, sized, length-layer, length-forward}
 use Rattle.network.proofs.Places.{Lies, Laid, lies-top, lies-both, lies-turned, lies-below, below-lies, laid, turned, crosses}
 use Rattle.network.proofs.Layer.{layer-at, layer-other}
 use Rattle.network.proofs.Where.{topBits, bottomBits, outputBits, inHalves, through, Keeps, lies-halves, cameFrom, across, input, output, across-below}
@@ -24,52 +24,29 @@ use Rattle.network.proofs.Undo.{forward-at}
 abbrev placed : (Side → ℕ) → Wiring
 placed at = record { enc = λ k p. at p; dec = λ k q. (q, false) }
 
+-- `own` reads as the bits from position b on do
+abbrev Own : List ℕ → ℕ → List ℕ → Type 0
+Own bits b own = (z : ℕ) → getD own z 0 ≡ getD bits (b + z) 0
+
+own-drop : (bits own : List ℕ) (b : ℕ) → Own bits b own → (c b′ : ℕ) → b′ ≡ b + c → Own bits b′ (drop c own)
+own-drop bits own b h c b′ e z =
+    getD-drop c own z 0 ∙ h (c + z) ∙ ap (λ (j : ℕ). getD bits j 0) (let f : b + (c + z) ≡ b′ + z = omega arith in f)
+
 module _ {A : Type 0} (d : A) where
-  -- only the bits of the entries count
-  runFrom-same :
-      (b c : ℕ → ℕ) (i j : ℕ) (es : List Entry) (xs : List A) → ((z : ℕ) → b (i + z) ≡ c (j + z))
-      → runFrom d b i es xs ≡ runFrom d c j es xs
-  unfolding runFrom
-  runFrom-same b c i j [] xs same = refl
-  runFrom-same b c i j (e ∷ es) xs same =
-      let now : b i ≡ c j = ap b (sym (add-zero i)) ∙ same 0 ∙ ap c (add-zero j) in
-      rw now
-      (runFrom-same b c (suc i) (suc j) es (runEntry d (c j) e xs)
-      (λ z. ap b (omega arith) ∙ same (suc z) ∙ ap c (omega arith)))
-
-  pub runFrom-append :
-      (b : ℕ → ℕ) (i : ℕ) (es fs : List Entry) (xs : List A)
-      → runFrom d b i (es ++ fs) xs ≡ runFrom d b (i + length es) fs (runFrom d b i es xs)
-  unfolding runFrom
-  runFrom-append b i [] fs xs = rw (add-zero i)
-  runFrom-append b i (e ∷ es) fs xs =
-      let next : suc i + length es ≡ i + suc (length es) = omega arith in
-      runFrom-append b (suc i) es fs (runEntry d (b i) e xs)
-      ∙ ap (λ (j : ℕ). runFrom d b j fs (runFrom d b (suc i) es (runEntry d (b i) e xs))) next
-
-  -- a log goes on with the bits that are left
-  pub runApply-append :
-      (bits : List ℕ) (c : ℕ) (es fs : List Entry) (xs : List A) → length es ≡ c
-      → runApply d bits (es ++ fs) xs ≡ runApply d (drop c bits) fs (runApply d bits es xs)
-  unfolding runApply
-  runApply-append bits c es fs xs e =
-      runFrom-append (λ z. getD bits z 0) 0 es fs xs
-      ∙ runFrom-same (λ z. getD bits z 0) (λ z. getD (drop c bits) z 0) (0 + length es) 0 fs
-      (runFrom d (λ z. getD bits z 0) 0 es xs)
-      (λ z.
-      ap (λ (j : ℕ). getD bits j 0) (omega arith) ∙ sym (getD-drop c bits z 0)
-      ∙ ap (λ (j : ℕ). getD (drop c bits) j 0) (sym (zero-add z)))
+  pub run-append :
+      (bits : List ℕ) (es fs : List Entry) (xs : List A) → run d bits (es ++ fs) xs ≡ run d bits fs (run d bits es xs)
+  unfolding run
+  run-append bits [] fs xs = refl
+  run-append bits (e ∷ es) fs xs = run-append bits es fs (runEntry d bits e xs)
 
   run-layer :
-      (at : Side → ℕ) (k c : ℕ) (bits : List ℕ) (xs : List A)
-      → runApply d bits (layerEntries at c) xs ≡ layer d (placed at) k c bits xs
-  unfolding layerEntries layer runApply runFrom runEntry
-  run-layer at k zero bits xs = refl
-  run-layer at k (suc i) bits xs =
-      runFrom-append (λ z. getD bits z 0) 0 (layerEntries at i)
-      (record { kind = 7; first = at (i, false); second = at (i, true) } ∷ [])
-      xs
-      ∙ rw (zero-add, length-layerEntries at i, run-layer at k i bits xs)
+      (at : Side → ℕ) (k c b : ℕ) (bits own : List ℕ) → Own bits b own → (xs : List A)
+      → run d bits (layerEntries at b c) xs ≡ layer d (placed at) k c own xs
+  unfolding layerEntries layer run runEntry
+  run-layer at k zero b bits own h xs = refl
+  run-layer at k (suc i) b bits own h xs =
+      run-append bits (layerEntries at b i) (entry 7 (at (i, false)) (at (i, true)) (b + i) ∷ []) xs
+      ∙ rw (run-layer at k i b bits own h xs, h i)
 
 -- xs became ys: the item at each of m places came from the place that `from` says, and nothing else moved
 record Carried {A : Type 0} (d : A) (m : ℕ) (place from : ℕ → ℕ) (xs ys : List A) : Type 0 where
@@ -138,55 +115,66 @@ module _ {A : Type 0} (d : A) {w : Wiring} (L : Lawful w) where
     layer-apart c r h away p l = away (w .enc (up m) p) (lies-below L m p (lies-both m p (omega arith)))
 
   -- one level: the halves being done as they should be, the whole is
-  module _ (m n : ℕ) (top bottom : Network) (bits : List ℕ) (place : ℕ → ℕ) (i : Inside m n place) (xs : List A) (e : length xs ≡ n) where
+  module _ (m n : ℕ) (top bottom : Network) (bits : List ℕ) (b : ℕ) (own : List ℕ) (reads : Own bits b own) (place : ℕ → ℕ)
+      (i : Inside m n place) (xs : List A) (e : length xs ≡ n) where
     abbrev side : Side → ℕ
     side = at m place
 
+    abbrev below : ℕ
+    below = b + ((up m - 1) + switchCount top)
+
     abbrev tops : List Entry
-    tops = switches w top (λ j. side (j, false))
+    tops = switches w top (λ j. side (j, false)) (b + (up m - 1))
 
     abbrev bottoms : List Entry
-    bottoms = switches w bottom (λ j. side (j, true))
+    bottoms = switches w bottom (λ j. side (j, true)) below
 
     abbrev outputs : List Entry
-    outputs = layerEntries side (down m)
+    outputs = layerEntries side (below + switchCount bottom) (down m)
 
     abbrev entered : List A
-    entered = layer d (placed side) (up m) (up m - 1) bits xs
+    entered = layer d (placed side) (up m) (up m - 1) own xs
 
     abbrev middle : List A
-    middle = runApply d (topBits m bits) tops entered
+    middle = run d bits tops entered
 
     abbrev left : List A
-    left = runApply d (bottomBits m top bits) bottoms middle
+    left = run d bits bottoms middle
 
     abbrev done : List A
-    done = layer d (placed side) (up m) (down m) (outputBits m top bottom bits) left
+    done = layer d (placed side) (up m) (down m) (outputBits m top bottom own) left
 
-    level-is : runApply d bits (switches w (split m top bottom) place) xs ≡ done
+    own-top : Own bits (b + (up m - 1)) (topBits m own)
+    own-top = own-drop bits own b reads (up m - 1) (b + (up m - 1)) refl
+
+    own-bottom : Own bits below (bottomBits m top own)
+    own-bottom = own-drop bits (topBits m own) (b + (up m - 1)) own-top (switchCount top) below (omega arith)
+
+    own-outputs : Own bits (below + switchCount bottom) (outputBits m top bottom own)
+    own-outputs = own-drop bits (bottomBits m top own) below own-bottom (switchCount bottom) (below + switchCount bottom) refl
+
+    level-is : run d bits (switches w (split m top bottom) place b) xs ≡ done
     unfolding switches
     level-is =
-        runApply-append d bits (up m - 1) (layerEntries side (up m - 1)) (tops ++ (bottoms ++ outputs)) xs
-        (length-layerEntries side (up m - 1))
-        ∙ ap (runApply d (topBits m bits) (tops ++ (bottoms ++ outputs))) (run-layer d side (up m) (up m - 1) bits xs)
-        ∙ runApply-append d (topBits m bits) (switchCount top) tops (bottoms ++ outputs) entered
-        (length-switches w top (λ j. side (j, false)))
-        ∙ runApply-append d (bottomBits m top bits) (switchCount bottom) bottoms outputs middle
-        (length-switches w bottom (λ j. side (j, true)))
-        ∙ run-layer d side (up m) (down m) (outputBits m top bottom bits) left
+        run-append d bits (layerEntries side b (up m - 1)) (tops ++ (bottoms ++ outputs)) xs
+        ∙ ap (run d bits (tops ++ (bottoms ++ outputs))) (run-layer d side (up m) (up m - 1) b bits own reads xs)
+        ∙ run-append d bits tops (bottoms ++ outputs) entered
+        ∙ run-append d bits bottoms outputs middle
+        ∙ run-layer d side (up m) (down m) (below + switchCount bottom) bits (outputBits m top bottom own) own-outputs left
 
     level-carries :
         (f g : ℕ → ℕ) → Keeps m f g
         → Carried d (up m) (λ j. side (j, false)) f entered middle
         → Carried d (down m) (λ j. side (j, true)) g middle left
-        → Carried d m place (through w (up m) (crosses (down m) (outputBits m top bottom bits)) (inHalves f g) (crosses (up m - 1) bits)) xs done
+        → Carried d m place (through w (up m) (crosses (down m) (outputBits m top bottom own)) (inHalves f g) (crosses (up m - 1) own))
+        xs done
     level-carries f g keeps mid low = record { long = same; moved = moves; others = stays }
       where
         out : List ℕ
-        out = outputBits m top bottom bits
+        out = outputBits m top bottom own
 
         first : length entered ≡ n
-        first = length-layer d (placed side) (up m) (up m - 1) bits xs ∙ e
+        first = length-layer d (placed side) (up m) (up m - 1) own xs ∙ e
 
         last : length left ≡ n
         last = low .long ∙ mid .long ∙ first
@@ -196,7 +184,7 @@ module _ {A : Type 0} (d : A) {w : Wiring} (L : Lawful w) where
 
         moves :
             (q : ℕ) → q < m
-            → getD done (place q) d ≡ getD xs (place (through w (up m) (crosses (down m) out) (inHalves f g) (crosses (up m - 1) bits) q)) d
+            → getD done (place q) d ≡ getD xs (place (through w (up m) (crosses (down m) out) (inHalves f g) (crosses (up m - 1) own) q)) d
         moves q h =
             let s : Side = w .dec (up m) q in
             let p : Side = turned (crosses (down m) out) s in
@@ -204,7 +192,7 @@ module _ {A : Type 0} (d : A) {w : Wiring} (L : Lawful w) where
             ap (λ (z : ℕ). getD done (place z) d) (sym (L .enc-dec (up m) q (omega arith)))
             ∙ layer-at d (placed side) (up m) m (down m) out left (rw last (laid-at m place n i)) (omega arith) s (below-lies L m q h)
             ∙ halves-carried m place n i entered middle left f g keeps mid low p lp
-            ∙ layer-at d (placed side) (up m) m (up m - 1) bits xs (rw e (laid-at m place n i)) (omega arith) (inHalves f g p)
+            ∙ layer-at d (placed side) (up m) m (up m - 1) own xs (rw e (laid-at m place n i)) (omega arith) (inHalves f g p)
             (lies-halves keeps p lp)
 
         stays : (r : ℕ) → ((q : ℕ) → q < m → r ≢ place q) → getD done r d ≡ getD xs r d
@@ -212,26 +200,30 @@ module _ {A : Type 0} (d : A) {w : Wiring} (L : Lawful w) where
             layer-other d (placed side) (up m) m (down m) out left r (layer-apart m place (down m) r (omega arith) away)
             ∙ low .others r (λ j h. away (w .enc (up m) (j, true)) (lies-below L m (j, true) (lies-both m (j, true) h)))
             ∙ mid .others r (λ j h. away (w .enc (up m) (j, false)) (lies-below L m (j, false) (lies-top m j h)))
-            ∙ layer-other d (placed side) (up m) m (up m - 1) bits xs r (layer-apart m place (up m - 1) r (omega arith) away)
+            ∙ layer-other d (placed side) (up m) m (up m - 1) own xs r (layer-apart m place (up m - 1) r (omega arith) away)
 
   run-carries :
-      {m : ℕ} {net : Network} → Sized m net → (n : ℕ) (bits : List ℕ) (place : ℕ → ℕ) (xs : List A) → length xs ≡ n
-      → Inside m n place → Carried d m place (cameFrom w net bits) xs (runApply d bits (switches w net place) xs)
-  unfolding switches across runApply runFrom
-  run-carries (none z) n bits place xs e i =
-      record { long = refl; moved = λ q h. refl; others = λ r h. refl }
-  run-carries {m} (some {top = top} {bottom = bottom} two t u) n bits place xs e i =
-      let first : length (entered m n top bottom bits place i xs e) ≡ n =
-      length-layer d (placed (at m place)) (up m) (up m - 1) bits xs ∙ e in
-      let mid = run-carries t n (topBits m bits) (λ j. at m place (j, false)) (entered m n top bottom bits place i xs e) first (inside-top m place n i) in
-      let low = run-carries u n (bottomBits m top bits) (λ j. at m place (j, true)) (middle m n top bottom bits place i xs e) (mid .long ∙ first) (inside-bottom m place n i) in
-      rw (level-is m n top bottom bits place i xs e)
-      (level-carries m n top bottom bits place i xs e
-      (cameFrom w top (topBits m bits))
-      (cameFrom w bottom (bottomBits m top bits))
+      {m : ℕ} {net : Network} → Sized m net → (n : ℕ) (bits : List ℕ) (b : ℕ) (own : List ℕ) → Own bits b own
+      → (place : ℕ → ℕ) (xs : List A) → length xs ≡ n
+      → Inside m n place → Carried d m place (cameFrom w net own) xs (run d bits (switches w net place b) xs)
+  unfolding switches across run
+  run-carries (none z) n bits b own h place xs e i =
+      record { long = refl; moved = λ q g. refl; others = λ r g. refl }
+  run-carries {m} (some {top = top} {bottom = bottom} two t u) n bits b own h place xs e i =
+      let first : length (entered m n top bottom bits b own h place i xs e) ≡ n =
+      length-layer d (placed (at m place)) (up m) (up m - 1) own xs ∙ e in
+      let mid = run-carries t n bits (b + (up m - 1)) (topBits m own) (own-top m n top bottom bits b own h place i xs e)
+      (λ j. at m place (j, false)) (entered m n top bottom bits b own h place i xs e) first (inside-top m place n i) in
+      let low = run-carries u n bits (below m n top bottom bits b own h place i xs e) (bottomBits m top own)
+      (own-bottom m n top bottom bits b own h place i xs e)
+      (λ j. at m place (j, true)) (middle m n top bottom bits b own h place i xs e) (mid .long ∙ first) (inside-bottom m place n i) in
+      rw (level-is m n top bottom bits b own h place i xs e)
+      (level-carries m n top bottom bits b own h place i xs e
+      (cameFrom w top (topBits m own))
+      (cameFrom w bottom (bottomBits m top own))
       (record {
-        onTop = across-below L output input t (topBits m bits);
-        onBottom = across-below L output input u (bottomBits m top bits);
+        onTop = across-below L output input t (topBits m own);
+        onBottom = across-below L output input u (bottomBits m top own);
       })
       mid
       low)
@@ -239,11 +231,12 @@ module _ {A : Type 0} (d : A) {w : Wiring} (L : Lawful w) where
   -- 01, 'Running a log': what is left by running the entries of mixing is what the wiring leaves, forward
   pub run-apply :
       (n : ℕ) (bits : List ℕ) (xs : List A) → length xs ≡ n
-      → runApply d bits (applyEntries w n) xs ≡ forward d w (network n) bits xs
+      → run d bits (applyEntries w n) xs ≡ forward d w (network n) bits xs
   unfolding applyEntries
   run-apply n bits xs e =
-      let carried = run-carries (sized n) n bits (λ q. q) xs e (record { below = λ q h. h; apart = λ q r h g z. z }) in
-      let ran = runApply d bits (switches w (network n) (λ q. q)) xs in
+      let own : Own bits 0 bits = λ z. ap (λ (j : ℕ). getD bits j 0) (sym (zero-add z)) in
+      let carried = run-carries (sized n) n bits 0 bits own (λ q. q) xs e (record { below = λ q h. h; apart = λ q r h g z. z }) in
+      let ran = run d bits (switches w (network n) (λ q. q) 0) xs in
       ext-getD d ran (forward d w (network n) bits xs) (carried .long ∙ e ∙ sym (length-forward d w n bits xs e))
       (λ q h.
       let below : q < n = omega (arith, carried .long) in

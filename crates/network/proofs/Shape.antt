@@ -8,7 +8,7 @@ use Prim.Native.Nat.{ℕ, zero, suc, _+_, _-_, _*_, _≤_, _<_}
 use native.Mathlib.Omega.{arith}
 use native.Mathlib.Decide.{decLt}
 use lib.Dec.{eqb}
-use lib.ListN.{length, getD, set, take, length-append, length-set, length-reverse, List·getD-append}
+use lib.ListN.{length, getD, set, take, drop, length-append, length-set, length-reverse, List·getD-append}
 use lib.Seq.{take-at}
 use borrow.Author.Tests.{lt-ltb, le-ltb}
 use Rattle.counts.specs.Counts.{up, W}
@@ -119,7 +119,7 @@ length-words (e ∷ es) = omega (arith, length-words es)
 pub words-append : (es fs : List Entry) → words (es ++ fs) ≡ words es ++ words fs
 unfolding words
 words-append [] fs = refl
-words-append (e ∷ es) fs = ap (λ (l : List ℕ). e .kind ∷ e .first ∷ e .second ∷ l) (words-append es fs)
+words-append (e ∷ es) fs = ap (λ (l : List ℕ). e .kind ∷ e .first ∷ e .second ∷ e .bit ∷ l) (words-append es fs)
 
 -- words of entries read again, with fewer words more than an entry has
 pub entries-words-more : (es : List Entry) (rest : List ℕ) → length rest < entryWords → entries (words es ++ rest) ≡ es
@@ -127,7 +127,8 @@ unfolding words entries
 entries-words-more [] [] h = refl
 entries-words-more [] (a ∷ []) h = refl
 entries-words-more [] (a ∷ b ∷ []) h = refl
-entries-words-more [] (a ∷ b ∷ c ∷ rest) h = absurd (omega arith)
+entries-words-more [] (a ∷ b ∷ c ∷ []) h = refl
+entries-words-more [] (a ∷ b ∷ c ∷ d ∷ rest) h = absurd (omega arith)
 entries-words-more (e ∷ es) rest h = ap (λ (l : List Entry). e ∷ l) (entries-words-more es rest h)
 
 pub entries-words : (es : List Entry) → entries (words es) ≡ es
@@ -145,48 +146,74 @@ unfolding words entries
 entries-front [] rest = refl
 entries-front (e ∷ es) rest = ap (λ (l : List Entry). e ∷ l) (entries-front es rest)
 
+-- no entry that a call writes
+abbrev pub none-such : Entry
+none-such = entry 0 0 0 0
+
 -- the reader of one entry reads what the reader of all does
-pub entryAt-entries : (log : List ℕ) (e : ℕ) → e < length (entries log) → entryAt log e ≡ getD (entries log) e (entry 0 0 0)
+pub entryAt-entries : (log : List ℕ) (e : ℕ) → e < length (entries log) → entryAt log e ≡ getD (entries log) e none-such
 unfolding entries
 entryAt-entries [] e h = absurd (omega arith)
 entryAt-entries (a ∷ []) e h = absurd (omega arith)
 entryAt-entries (a ∷ b ∷ []) e h = absurd (omega arith)
-entryAt-entries (a ∷ b ∷ c ∷ rest) zero h = refl
-entryAt-entries (a ∷ b ∷ c ∷ rest) (suc e) h =
-    let kind : entryWords * suc e ≡ suc (suc (suc (entryWords * e))) = omega arith in
-    let first : entryWords * suc e + 1 ≡ suc (suc (suc (entryWords * e + 1))) = omega arith in
-    let second : entryWords * suc e + 2 ≡ suc (suc (suc (entryWords * e + 2))) = omega arith in
-    rw (first, second, kind) (entryAt-entries rest e (omega arith))
+entryAt-entries (a ∷ b ∷ c ∷ []) e h = absurd (omega arith)
+entryAt-entries (a ∷ b ∷ c ∷ d ∷ rest) zero h = refl
+entryAt-entries (a ∷ b ∷ c ∷ d ∷ rest) (suc e) h =
+    let at = entryWords * e in
+    let kind : entryWords * suc e ≡ suc (suc (suc (suc at))) = omega arith in
+    let first : entryWords * suc e + 1 ≡ suc (suc (suc (suc (at + 1)))) = omega arith in
+    let second : entryWords * suc e + 2 ≡ suc (suc (suc (suc (at + 2)))) = omega arith in
+    let bit : entryWords * suc e + 3 ≡ suc (suc (suc (suc (at + 3)))) = omega arith in
+    rw (first, second, bit, kind) (entryAt-entries rest e (omega arith))
 
 -- so of a log that begins with some entries it reads these
-pub entryAt-front : (es : List Entry) (rest : List ℕ) (e : ℕ) → e < length es → entryAt (words es ++ rest) e ≡ getD es e (entry 0 0 0)
+pub entryAt-front : (es : List Entry) (rest : List ℕ) (e : ℕ) → e < length es → entryAt (words es ++ rest) e ≡ getD es e none-such
 entryAt-front es rest e h =
     let all = entries-front es rest in
     let inside : e < length (entries (words es ++ rest)) = rw all (simp length-append (omega arith)) in
-    entryAt-entries (words es ++ rest) e inside ∙ rw all (List·getD-append es (entries rest) (entry 0 0 0) e h)
+    entryAt-entries (words es ++ rest) e inside ∙ rw all (List·getD-append es (entries rest) none-such e h)
 
-pub length-layerEntries : (place : Side → ℕ) (c : ℕ) → length (layerEntries place c) ≡ c
+-- a log cut between two entries is read in two parts
+pub entries-cut : (i : ℕ) (log : List ℕ) → entries (take (entryWords * i) log) ++ entries (drop (entryWords * i) log) ≡ entries log
+unfolding entries
+entries-cut zero log = refl
+entries-cut (suc i) log = rw more (go log (entries-cut i))
+  where
+    more : entryWords * suc i ≡ suc (suc (suc (suc (entryWords * i))))
+    more = omega arith
+
+    go : (l : List ℕ)
+        → ((rest : List ℕ) → entries (take (entryWords * i) rest) ++ entries (drop (entryWords * i) rest) ≡ entries rest)
+        → entries (take (suc (suc (suc (suc (entryWords * i))))) l) ++ entries (drop (suc (suc (suc (suc (entryWords * i))))) l)
+        ≡ entries l
+    go [] before = refl
+    go (a ∷ []) before = refl
+    go (a ∷ b ∷ []) before = refl
+    go (a ∷ b ∷ c ∷ []) before = refl
+    go (a ∷ b ∷ c ∷ d ∷ rest) before = ap (λ (es : List Entry). entry a b c d ∷ es) (before rest)
+
+pub length-layerEntries : (place : Side → ℕ) (b c : ℕ) → length (layerEntries place b c) ≡ c
 unfolding layerEntries
-length-layerEntries place zero = refl
-length-layerEntries place (suc i) = rw (length-append, length-layerEntries place i) (omega arith)
+length-layerEntries place b zero = refl
+length-layerEntries place b (suc i) = rw (length-append, length-layerEntries place b i) (omega arith)
 
 module _ (w : Wiring) where
-  pub length-switches : (net : Network) (place : ℕ → ℕ) → length (switches w net place) ≡ switchCount net
+  pub length-switches : (net : Network) (place : ℕ → ℕ) (b : ℕ) → length (switches w net place b) ≡ switchCount net
   unfolding switches switchCount
-  length-switches wires place = refl
-  length-switches (split m top bottom) place =
+  length-switches wires place b = refl
+  length-switches (split m top bottom) place b =
       simp length-append
       (omega (
         arith,
-        length-layerEntries (λ p. place (w .enc (up m) p)) (up m - 1),
-        length-switches top (λ i. place (w .enc (up m) (i, false))),
-        length-switches bottom (λ i. place (w .enc (up m) (i, true))),
-        length-layerEntries (λ p. place (w .enc (up m) p)) (down m),
+        length-layerEntries (λ p. place (w .enc (up m) p)) b (up m - 1),
+        length-switches top (λ i. place (w .enc (up m) (i, false))) (b + (up m - 1)),
+        length-switches bottom (λ i. place (w .enc (up m) (i, true))) (b + ((up m - 1) + switchCount top)),
+        length-layerEntries (λ p. place (w .enc (up m) p)) (b + ((up m - 1) + switchCount top) + switchCount bottom) (down m),
       ))
 
   pub length-applyEntries : (n : ℕ) → length (applyEntries w n) ≡ W n
   unfolding applyEntries
-  length-applyEntries n = length-switches (network n) (λ i. i) ∙ count-is n
+  length-applyEntries n = length-switches (network n) (λ i. i) 0 ∙ count-is n
 
   pub length-inverseEntries : (n : ℕ) → length (inverseEntries w n) ≡ W n
   unfolding inverseEntries

@@ -11,9 +11,9 @@ use lib.ListN.{length, getD, set, length-set, List·getD-append}
 use lib.Seq.{getD-append-add, set-append-left}
 use Rattle.counts.specs.Counts.{up}
 use Rattle.network.specs.Wiring.{Wiring, Side}
-use Rattle.network.specs.Network.{Network, wires, split, down}
+use Rattle.network.specs.Network.{Network, wires, split, switchCount, down}
 use Rattle.network.specs.Move.{switch}
-use Rattle.network.specs.Log.{Entry, entry, layerEntries, switches, runEntry, runFrom}
+use Rattle.network.specs.Log.{Entry, entry, layerEntries, switches, runEntry, run}
 use Rattle.network.specs.Shift.{shifted}
 use Rattle.network.proofs.RunBack.{Below, empty, also, length-runEntry}
 
@@ -27,13 +27,13 @@ length-shifted o (e ∷ es) = ap suc (length-shifted o es)
 pub shifted-append : (o : ℕ) (es fs : List Entry) → shifted o (es ++ fs) ≡ shifted o es ++ shifted o fs
 unfolding shifted
 shifted-append o [] fs = refl
-shifted-append o (e ∷ es) fs = ap (λ t. entry (e .kind) (o + e .first) (o + e .second) ∷ t) (shifted-append o es fs)
+shifted-append o (e ∷ es) fs = ap (λ t. entry (e .kind) (o + e .first) (o + e .second) (e .bit) ∷ t) (shifted-append o es fs)
 
 pub shifted-reverse : (o : ℕ) (es : List Entry) → shifted o (reverse es) ≡ reverse (shifted o es)
 unfolding shifted
 shifted-reverse o [] = refl
 shifted-reverse o (e ∷ es) =
-    let x : Entry = entry (e .kind) (o + e .first) (o + e .second) in
+    let x : Entry = entry (e .kind) (o + e .first) (o + e .second) (e .bit) in
     ap (shifted o) (reverse-cons e es)
     ∙ shifted-append o (reverse es) (e ∷ [])
     ∙ ap (λ t. t ++ (x ∷ [])) (shifted-reverse o es)
@@ -43,42 +43,45 @@ pub shifted-none : (es : List Entry) → shifted 0 es ≡ es
 unfolding shifted
 shifted-none [] = refl
 shifted-none (e ∷ es) =
-    ap (λ n. entry (e .kind) n (0 + e .second) ∷ shifted 0 es) (zero-add (e .first))
-    ∙ ap (λ n. entry (e .kind) (e .first) n ∷ shifted 0 es) (zero-add (e .second))
+    ap (λ n. entry (e .kind) n (0 + e .second) (e .bit) ∷ shifted 0 es) (zero-add (e .first))
+    ∙ ap (λ n. entry (e .kind) (e .first) n (e .bit) ∷ shifted 0 es) (zero-add (e .second))
     ∙ ap (λ t. e ∷ t) (shifted-none es)
 
 pub shifted-twice : (o s : ℕ) (es : List Entry) → shifted o (shifted s es) ≡ shifted (o + s) es
 unfolding shifted
 shifted-twice o s [] = refl
 shifted-twice o s (e ∷ es) =
-    ap (λ n. entry (e .kind) n (o + (s + e .second)) ∷ shifted o (shifted s es)) (sym (add-assoc o s (e .first)))
-    ∙ ap (λ n. entry (e .kind) (o + s + e .first) n ∷ shifted o (shifted s es)) (sym (add-assoc o s (e .second)))
-    ∙ ap (λ t. entry (e .kind) (o + s + e .first) (o + s + e .second) ∷ t) (shifted-twice o s es)
+    ap (λ n. entry (e .kind) n (o + (s + e .second)) (e .bit) ∷ shifted o (shifted s es)) (sym (add-assoc o s (e .first)))
+    ∙ ap (λ n. entry (e .kind) (o + s + e .first) n (e .bit) ∷ shifted o (shifted s es)) (sym (add-assoc o s (e .second)))
+    ∙ ap (λ t. entry (e .kind) (o + s + e .first) (o + s + e .second) (e .bit) ∷ t) (shifted-twice o s es)
 
 -- a layer, and a network, whose places all lie further on
-pub layer-shifted : (o : ℕ) (at : Side → ℕ) (c : ℕ) → layerEntries (λ p. o + at p) c ≡ shifted o (layerEntries at c)
+pub layer-shifted : (o : ℕ) (at : Side → ℕ) (b c : ℕ) → layerEntries (λ p. o + at p) b c ≡ shifted o (layerEntries at b c)
 unfolding layerEntries shifted
-layer-shifted o at zero = refl
-layer-shifted o at (suc i) =
-    let x : Entry = entry 7 (at (i, false)) (at (i, true)) in
-    ap (λ t. t ++ (entry 7 (o + at (i, false)) (o + at (i, true)) ∷ [])) (layer-shifted o at i)
-    ∙ sym (shifted-append o (layerEntries at i) (x ∷ []))
+layer-shifted o at b zero = refl
+layer-shifted o at b (suc i) =
+    let x : Entry = entry 7 (at (i, false)) (at (i, true)) (b + i) in
+    ap (λ t. t ++ (entry 7 (o + at (i, false)) (o + at (i, true)) (b + i) ∷ [])) (layer-shifted o at b i)
+    ∙ sym (shifted-append o (layerEntries at b i) (x ∷ []))
 
-pub switches-shifted : (w : Wiring) (o : ℕ) (net : Network) (place : ℕ → ℕ)
-    → switches w net (λ i. o + place i) ≡ shifted o (switches w net place)
+pub switches-shifted : (w : Wiring) (o : ℕ) (net : Network) (place : ℕ → ℕ) (b : ℕ)
+    → switches w net (λ i. o + place i) b ≡ shifted o (switches w net place b)
 unfolding switches shifted
-switches-shifted w o wires place = refl
-switches-shifted w o (split m top bottom) place =
+switches-shifted w o wires place b = refl
+switches-shifted w o (split m top bottom) place b =
     let at : Side → ℕ = λ p. place (w .enc (up m) p) in
-    let fs : List Entry = layerEntries at (up m - 1) in
-    let us : List Entry = switches w top (λ i. at (i, false)) in
-    let ls : List Entry = switches w bottom (λ i. at (i, true)) in
-    let gs : List Entry = layerEntries at (down m) in
+    let b1 = b + (up m - 1) in
+    let b2 = b + ((up m - 1) + switchCount top) in
+    let b3 = b2 + switchCount bottom in
+    let fs : List Entry = layerEntries at b (up m - 1) in
+    let us : List Entry = switches w top (λ i. at (i, false)) b1 in
+    let ls : List Entry = switches w bottom (λ i. at (i, true)) b2 in
+    let gs : List Entry = layerEntries at b3 (down m) in
     rw (
-      layer-shifted o at (up m - 1),
-      layer-shifted o at (down m),
-      switches-shifted w o top (λ i. at (i, false)),
-      switches-shifted w o bottom (λ i. at (i, true)),
+      layer-shifted o at b (up m - 1),
+      layer-shifted o at b3 (down m),
+      switches-shifted w o top (λ i. at (i, false)) b1,
+      switches-shifted w o bottom (λ i. at (i, true)) b2,
       shifted-append o fs (us ++ (ls ++ gs)),
       shifted-append o us (ls ++ gs),
       shifted-append o ls gs,
@@ -120,40 +123,46 @@ module _ {A : Type 0} (d : A) where
           (set-append-left y z q (getD x p d) ly)
       go false = refl
 
-  entry-behind : (a y : List A) (bit : ℕ) (e : Entry)
-      → runEntry d bit (entry (e .kind) (length a + e .first) (length a + e .second)) (a ++ y) ≡ a ++ runEntry d bit e y
+  entry-behind : (a y : List A) (bits : List ℕ) (e : Entry)
+      → runEntry d bits (entry (e .kind) (length a + e .first) (length a + e .second) (e .bit)) (a ++ y) ≡ a ++ runEntry d bits e y
   unfolding runEntry
-  entry-behind a y bit e = go (eqb (e .kind) 7)
+  entry-behind a y bits e = go (eqb (e .kind) 7)
     where
+      bit : ℕ
+      bit = getD bits (e .bit) 0
+
       go : (b : Bool)
           → cond b (switch d (length a + e .first) (length a + e .second) bit (a ++ y)) (a ++ y)
           ≡ a ++ cond b (switch d (e .first) (e .second) bit y) y
       go true = switch-behind a y (e .first) (e .second) bit
       go false = refl
 
-  entry-before : (x z : List A) (bit : ℕ) (e : Entry) → e .first < length x → e .second < length x
-      → runEntry d bit e (x ++ z) ≡ runEntry d bit e x ++ z
+  entry-before : (x z : List A) (bits : List ℕ) (e : Entry) → e .first < length x → e .second < length x
+      → runEntry d bits e (x ++ z) ≡ runEntry d bits e x ++ z
   unfolding runEntry
-  entry-before x z bit e p q = go (eqb (e .kind) 7)
+  entry-before x z bits e p q = go (eqb (e .kind) 7)
     where
+      bit : ℕ
+      bit = getD bits (e .bit) 0
+
       go : (b : Bool)
           → cond b (switch d (e .first) (e .second) bit (x ++ z)) (x ++ z) ≡ cond b (switch d (e .first) (e .second) bit x) x ++ z
       go true = switch-before x z (e .first) (e .second) bit p q
       go false = refl
 
   -- entries whose places are counted behind some items run on the rest alone
-  pub runs-behind : (bit : ℕ → ℕ) (e : ℕ) (es : List Entry) (a y : List A)
-      → runFrom d bit e (shifted (length a) es) (a ++ y) ≡ a ++ runFrom d bit e es y
-  unfolding runFrom shifted
-  runs-behind bit e [] a y = refl
-  runs-behind bit e (x ∷ es) a y =
-      ap (runFrom d bit (suc e) (shifted (length a) es)) (entry-behind a y (bit e) x) ∙ runs-behind bit (suc e) es a (runEntry d (bit e) x y)
+  pub runs-behind : (bits : List ℕ) (es : List Entry) (a y : List A)
+      → run d bits (shifted (length a) es) (a ++ y) ≡ a ++ run d bits es y
+  unfolding run shifted
+  runs-behind bits [] a y = refl
+  runs-behind bits (x ∷ es) a y =
+      ap (run d bits (shifted (length a) es)) (entry-behind a y bits x) ∙ runs-behind bits es a (runEntry d bits x y)
 
   -- entries whose places are all among the first items run on these alone
-  pub runs-before : (bit : ℕ → ℕ) (e : ℕ) {n : ℕ} {es : List Entry} (x z : List A) → length x ≡ n → Below n es
-      → runFrom d bit e es (x ++ z) ≡ runFrom d bit e es x ++ z
-  unfolding runFrom
-  runs-before bit e x z l empty = refl
-  runs-before bit e x z l (also {e = f} {es = es} p q b) =
-      ap (runFrom d bit (suc e) es) (entry-before x z (bit e) f (omega arith) (omega arith))
-      ∙ runs-before bit (suc e) (runEntry d (bit e) f x) z (length-runEntry d (bit e) f x ∙ l) b
+  pub runs-before : (bits : List ℕ) {n : ℕ} {es : List Entry} (x z : List A) → length x ≡ n → Below n es
+      → run d bits es (x ++ z) ≡ run d bits es x ++ z
+  unfolding run
+  runs-before bits x z l empty = refl
+  runs-before bits x z l (also {e = f} {es = es} p q b) =
+      ap (run d bits es) (entry-before x z bits f (omega arith) (omega arith))
+      ∙ runs-before bits (runEntry d bits f x) z (length-runEntry d bits f x ∙ l) b

@@ -7,4 +7,4 @@ use Rattle.network.specs.Log.{Entry, entry}
 -- the same entries where their places are counted from o on
 unfoldable pub shifted : ℕ → List Entry → List Entry
 shifted o [] = []
-shifted o (e ∷ es) = entry (e .kind) (o + e .first) (o + e .second) ∷ shifted o es
+shifted o (e ∷ es) = entry (e .kind) (o + e .first) (o + e .second) (e .bit) ∷ shifted o es

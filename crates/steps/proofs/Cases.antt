@@ -50,19 +50,20 @@ cases-run : map (λ (c : Case). given (c .order) (ran paper (c .order)) (ran nei
 unfolding firstBadFrom W byHalves network networkIn switchCount switch look seek store each act step1 step2 step3 step4 step5 step6 rounds inputEntries entriesOf setEntries subnetworks runEntry runEntries runSet given cases ran
 cases-run = refl
 
--- the entries of kind 5 for nine places: each network of two places or more once, by its start and size
+-- the entries of kind 5 for nine places: each network of two places or more once, by its start, size and first bit
 halvings : List Entry → List Entry
 halvings [] = []
 halvings (e ∷ es) = cond (eqb (e .kind) 5) (e ∷ halvings es) (halvings es)
 
 halvings-of-nine : halvings (setEntries neighbour 9)
-    ≡ entry 5 0 9 ∷ entry 5 0 5 ∷ entry 5 0 3 ∷ entry 5 0 2 ∷ entry 5 2 2 ∷ entry 5 1 4 ∷ entry 5 1 2 ∷ entry 5 3 2 ∷ []
-unfolding network networkIn rounds inputEntries entriesOf setEntries halvings
+    ≡ entry 5 0 9 0 ∷ entry 5 0 5 4 ∷ entry 5 0 3 6 ∷ entry 5 0 2 7 ∷ entry 5 2 2 9
+    ∷ entry 5 1 4 12 ∷ entry 5 1 2 13 ∷ entry 5 3 2 14 ∷ []
+unfolding network networkIn switchCount rounds inputEntries entriesOf setEntries halvings
 halvings-of-nine = refl
 
--- the log of three places: three words for each of the eleven entries
+-- the log of three places: four words for each of the eleven entries
 log-of-three : words (setEntries paper 3)
-    ≡ 1 ∷ 0 ∷ 3 ∷ 2 ∷ 0 ∷ 3 ∷ 3 ∷ 0 ∷ 3 ∷ 1 ∷ 0 ∷ 3 ∷ 2 ∷ 0 ∷ 3 ∷ 3 ∷ 0 ∷ 3
-    ∷ 4 ∷ 0 ∷ 3 ∷ 5 ∷ 0 ∷ 3 ∷ 5 ∷ 0 ∷ 2 ∷ 6 ∷ 0 ∷ 2 ∷ 6 ∷ 0 ∷ 3 ∷ []
-unfolding words network networkIn rounds inputEntries entriesOf setEntries
+    ≡ 1 ∷ 0 ∷ 3 ∷ 0 ∷ 2 ∷ 0 ∷ 3 ∷ 0 ∷ 3 ∷ 0 ∷ 3 ∷ 0 ∷ 1 ∷ 0 ∷ 3 ∷ 0 ∷ 2 ∷ 0 ∷ 3 ∷ 0 ∷ 3 ∷ 0 ∷ 3 ∷ 0
+    ∷ 4 ∷ 0 ∷ 3 ∷ 0 ∷ 5 ∷ 0 ∷ 3 ∷ 0 ∷ 5 ∷ 0 ∷ 2 ∷ 1 ∷ 6 ∷ 0 ∷ 2 ∷ 1 ∷ 6 ∷ 0 ∷ 3 ∷ 0 ∷ []
+unfolding words network networkIn switchCount rounds inputEntries entriesOf setEntries
 log-of-three = refl

@@ -1,7 +1,9 @@
--- Running a setter's log: each entry does the step of its kind on the one network that has its start and size (01, 'Running a log').
+-- Running a setter's log: each entry does the step of its kind on the one network that has its start and size (01, 'Running a log'),
+-- with the bits from its own position on (02, F-7).
 -- Assumes nothing: these are definitions.
+use mathlib.Core.Path.{_≡_}
 use mathlib.Core.Bool.{Bool, true, false, cond, _&&_}
-use mathlib.Core.List.{List, [], _∷_, _++_}
+use mathlib.Core.List.{List, [], _∷_, _++_, List·Memᴰ}
 use Prim.Native.Nat.{ℕ, zero, suc, _+_, _-_}
 use lib.Dec.{eqb}
 use lib.ListN.{length}
@@ -24,10 +26,22 @@ subnetworks w (split m top bottom) place bit =
 abbrev pub names : Entry → Subnetwork → Bool
 names e N = eqb (N .place 0) (e .first) && eqb (N .size) (e .second)
 
+-- an entry of one of some networks: it has that network's start and size, and the position of its first bit
+pub record Of (Ns : List Subnetwork) (e : Entry) : Type 0 where
+  pub network : Subnetwork
+  pub one : List·Memᴰ network Ns
+  pub starts : e .first ≡ network .place 0
+  pub many : e .second ≡ network .size
+  pub begins : e .bit ≡ network .bit
+
+-- a network with its bits where an entry has them
+abbrev pub withBits : Entry → Subnetwork → Subnetwork
+withBits e N = record { place = N .place; size = N .size; bit = e .bit }
+
 -- an entry's step on the first network of a list that it names; the state as it is where it names none
 unfoldable pub runEntry : Wiring → List Subnetwork → Entry → State → State
 runEntry w [] e x = x
-runEntry w (N ∷ Ns) e x = cond (names e N) (step w N (e .kind) x) (runEntry w Ns e x)
+runEntry w (N ∷ Ns) e x = cond (names e N) (step w (withBits e N) (e .kind) x) (runEntry w Ns e x)
 
 unfoldable pub runEntries : Wiring → List Subnetwork → List Entry → State → State
 runEntries w Ns [] x = x

@@ -1,8 +1,9 @@
-//! What the tests share: a second, plainly written computation of every outcome (`plain`), buffers with guards, numbers that
-//! look random, and the count of what was compared.
+//! What the tests share: a second, plainly written computation of every outcome (`plain`), logs replayed (`replay`), buffers with
+//! guards, numbers that look random, and the count of what was compared.
 #![allow(dead_code)] // each test program uses a part
 
 pub mod plain;
+pub mod replay;
 
 use lomuveran::Refusal;
 use plain::{Neighbour, Paper, Wiring};

@@ -15,7 +15,6 @@ use Rattle.network.proofs.RunBack.{below-reverse}
 use Rattle.wirings.specs.declared.Net.{Net}
 use Rattle.wirings.specs.Nets.{netOf, Spaced, IsHalf}
 use Rattle.wirings.proofs.Halves.{fewer, step-inside, gap-inside, spaced-as, is-top, is-bottom, bottom-starts}
-use Rattle.apply_layers.specs.Ran.{bitBack}
 use Rattle.apply_layers.proofs.Network.{Same, W-two, nothing-back, pair-back, returned}
 use Rattle.apply_layers.proofs.Parts.{Room, room-after, fits, front-long, behind-long, front-kept, behind-kept}
 use Rattle.apply_layers.proofs.Lending.{same, same-then, span, Sizes, sizes, inside-all, to-pair, to-layer, to-top, to-bottom}
@@ -181,7 +180,7 @@ module _ (t : ℕ) where
   run-back-returns : run-back-lts.Need-returns (calls t) (run-back-at t) run-back.Post
   run-back-returns c =
       let a = c .before .before .before .before .args in
-      nothing-back (netOf (a .t) (a .o) (a .m) (a .apart)) (a .width) (a .o) (a .e) (bitBack (a .bits .now)) (a .blocks .now)
+      nothing-back (netOf (a .t) (a .o) (a .m) (a .apart)) (a .width) (a .o) (a .e) (a .bits .now) (a .blocks .now)
       (a .log .now) (c .if1 .taken)
 
   run-back-add-k : run-back-lts.Need-add-k (calls t) (run-back-at t) run-back.Post
@@ -224,7 +223,7 @@ module _ (t : ℕ) where
       let l = c .before .before .before .before in
       let s = l .before .before .before .before in
       let a = g-of s .args in
-      pair-back (sp s) (a .width) (a .o) (a .e) (bitBack (a .bits .now)) (l .before .before .before .if2 .taken)
+      pair-back (sp s) (a .width) (a .o) (a .e) (a .bits .now) (l .before .before .before .if2 .taken)
       (l .pair-back .ensures)
 
   run-back-sub-h : run-back-lts.Need-sub-h (calls t) (run-back-at t) run-back.Post
@@ -351,13 +350,13 @@ module _ (t : ℕ) where
       let S = sp s in
       let T = upper s in
       let U = lower s in
-      let bit = bitBack (a .bits .now) in (
+      let bits = a .bits .now in (
         omega (arith, z .count, far1 m, far2 n),
-        returned S (z .two) T U (a .width) (a .o) bit (omega (arith, z .count, z .room, far1 m, far2 n)) (kept1 l) (kept2 m)
-            (kept3 n) refl (far1 m) (far2 n) (l .layer-back .ensures)
-            (bottom-ran p I S (z .two) bit U (room1 l) (m .run-back .last .0) (m .run-back .ensures .1))
-            (top-ran p I S (z .two) bit T (room2 m) (n .run-back2 .last .0) (n .run-back2 .kept .0)
-            (below-reverse (below-all _ (top-inside p I S (z .two) T)))
+        returned S (z .two) T U (a .width) (a .o) bits (omega (arith, z .count, z .room, far1 m, far2 n)) (kept1 l) (kept2 m)
+            (kept3 n) (z .enough) refl (far1 m) (far2 n) (l .layer-back .ensures)
+            (bottom-ran p I S (z .two) U (room1 l) (m .run-back .last .0) (m .run-back .ensures .1))
+            (top-ran p I S (z .two) T (room2 m) (n .run-back2 .last .0) (n .run-back2 .kept .0)
+            (below-reverse (below-all _ _ (top-inside p I S (z .two) T)))
             (n .run-back2 .ensures .1))
             (r .layer-back2 .ensures),
       )

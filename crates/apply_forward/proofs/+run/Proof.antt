@@ -14,7 +14,6 @@ use Rattle.network.specs.Network.{down}
 use Rattle.wirings.specs.declared.Net.{Net}
 use Rattle.wirings.specs.Nets.{netOf, Spaced, IsHalf}
 use Rattle.wirings.proofs.Halves.{fewer, step-inside, gap-inside, spaced-as, is-top, is-bottom, bottom-starts}
-use Rattle.apply_layers.specs.Ran.{bitAt}
 use Rattle.apply_layers.proofs.Network.{Same, W-two, nothing, pair, applied}
 use Rattle.apply_layers.proofs.Parts.{Room, room-after, fits, front-long, behind-long, front-kept, behind-kept}
 use Rattle.apply_layers.proofs.Lending.{same, same-then, span, Sizes, sizes, inside-all, to-pair, to-layer, to-top, to-bottom}
@@ -174,7 +173,7 @@ module _ (t : ℕ) where
   run-returns : run-lts.Need-returns (calls t) (run-at t) run.Post
   run-returns c =
       let a = c .before .before .before .before .args in
-      nothing (netOf (a .t) (a .o) (a .m) (a .apart)) (a .width) (a .o) (a .e) (bitAt (a .bits .now)) (a .blocks .now) (a .log .now)
+      nothing (netOf (a .t) (a .o) (a .m) (a .apart)) (a .width) (a .o) (a .e) (a .bits .now) (a .blocks .now) (a .log .now)
       (c .if1 .taken)
 
   run-add-k : run-lts.Need-add-k (calls t) (run-at t) run.Post
@@ -217,7 +216,7 @@ module _ (t : ℕ) where
       let l = c .before .before .before .before in
       let s = l .before .before .before .before in
       let a = g-of s .args in
-      pair (sp s) (a .width) (a .o) (a .e) (bitAt (a .bits .now)) (l .before .before .before .if2 .taken)
+      pair (sp s) (a .width) (a .o) (a .e) (a .bits .now) (l .before .before .before .if2 .taken)
       (l .pair .ensures)
 
   run-sub-h : run-lts.Need-sub-h (calls t) (run-at t) run.Post
@@ -342,13 +341,13 @@ module _ (t : ℕ) where
       let S = sp s in
       let T = upper s in
       let U = lower s in
-      let bit = bitAt (a .bits .now) in (
+      let bits = a .bits .now in (
         omega (arith, z .count, far1 m, far2 n),
-        applied S (z .two) T U (a .width) (a .o) bit (omega (arith, z .count, z .room, far1 m, far2 n)) (kept1 l) (kept2 m)
+        applied S (z .two) T U (a .width) (a .o) bits (omega (arith, z .count, z .room, far1 m, far2 n)) (kept1 l) (kept2 m)
             (kept3 n) refl (far1 m) (far2 n) (l .layer .ensures)
-            (top-ran p I S (z .two) bit T (room1 l) (m .run .last .0) (m .run .kept .0) (below-all _ (top-inside p I S (z .two) T))
+            (top-ran p I S (z .two) T (room1 l) (m .run .last .0) (m .run .kept .0) (below-all _ _ (top-inside p I S (z .two) T))
             (m .run .ensures .1))
-            (bottom-ran p I S (z .two) bit U (room2 m) (n .run2 .last .0) (n .run2 .ensures .1))
+            (bottom-ran p I S (z .two) U (room2 m) (n .run2 .last .0) (n .run2 .ensures .1))
             (r .layer2 .ensures),
       )
 

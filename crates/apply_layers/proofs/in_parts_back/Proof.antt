@@ -2,10 +2,13 @@
 -- Assumes nothing.
 use native.Mathlib.Omega.{arith}
 use mathlib.Core.Path.{_≡_, refl, _∙_}
-use Prim.Native.Nat.{_+_, _*_, _-_, _≤_}
+use Prim.Native.Nat.{suc, _+_, _*_, _-_, _≤_, _<_}
 use lib.ListN.{length, getD}
 use Rattle.bits.specs.Bits.{Bits}
-use Rattle.apply_layers.proofs.Blocks.{Within, within, few-fit, both-parts}
+use Rattle.network.specs.Log.{entryWords}
+use Rattle.entry_log.proofs.Written.{packed-written}
+use Rattle.apply_layers.proofs.Blocks.{Within, within, past-near, few-fit, both-parts}
+use Rattle.apply_layers.proofs.Packing.{atSwitch, switch-above, switch-before}
 use Rattle.apply_layers.proofs.Runs.{Leads, leads-more, leads-none}
 use Rattle.apply_layers.proofs.in_parts_back.Statement.{statement}
 use Rattle.apply_layers.proofs.in_parts_back.Tie as tie
@@ -13,34 +16,38 @@ use Rattle.apply_layers.proofs.in_parts_back.Reads as reads
 use Rattle.apply_layers.proofs.in_parts_back.Lts as lts
 use Rattle.apply_exchange.proofs.exchange_rest.Reads as exchange-rest-reads
 use Rattle.apply_exchange.proofs.exchange_whole.Reads as exchange-whole-reads
-use Rattle.entry_log.proofs.write_entry.Reads as write-entry-reads
+use Rattle.entry_log.proofs.packed.Reads as packed-reads
+use Rattle.entry_log.proofs.write_packed.Reads as write-packed-reads
 
 abbrev Inv-loop : tie.InvT-loop
-Inv-loop blocks₀ width whole rest step gap c o bits log₀ e stride across first i₀ to₀ blocks log i to =
-    ((i ≤ c) × ((to + i ≡ e + c) × ((length blocks ≡ length blocks₀) × (length log ≡ length log₀))))
-    × Leads width step gap o bits e blocks₀ log₀ c i to blocks log
+Inv-loop blocks₀ width whole rest step gap c o bits log₀ e stride across first past next x₀ i₀ to₀ blocks log x i to =
+    ((i ≤ c) × ((to + i ≡ e + c) × ((length blocks ≡ length blocks₀) × (length log ≡ length log₀)))) × (x ≡ atSwitch step gap o first i)
+    × Leads width step gap o bits first e blocks₀ log₀ c i to blocks log
 
 abbrev μ-loop : tie.MeasureT-loop
-μ-loop blocks₀ width whole rest step gap c o bits log₀ e stride across first i₀ to₀ blocks log i to = i
+μ-loop blocks₀ width whole rest step gap c o bits log₀ e stride across first past next x₀ i₀ to₀ blocks log x i to = i
 
 -- where the next switch acts
 abbrev Next : Type 0
 Next =
     lts.After-shared-slice-known2 (
+      packed-reads.Asked,
+      packed-reads.Learnt,
       exchange-whole-reads.Asked,
       exchange-whole-reads.Learnt,
       exchange-rest-reads.Asked,
       exchange-rest-reads.Learnt,
-      write-entry-reads.Asked,
-      write-entry-reads.Learnt,
+      write-packed-reads.Asked,
+      write-packed-reads.Learnt,
     )
     reads.Pre reads.Post Inv-loop μ-loop
 
-lies : (e : Next) → (let a = e .before .before .before .before .before .before .args in let l = e .before .before .loop in
+lies : (e : Next) → (let a = e .before .before .before .before .before .before .before .before .args in let l = e .before .before .loop in
     Within (a .width) (a .o) ((l .i - 1) * a .step) ((l .i - 1) * (a .step * a .width)) (a .gap) (length (a .blocks .now)))
 lies e =
-    let p = e .before .before .before .before .before .before .pre in
-    within (p .0) (p .1) (e .before .before .loop .i - 1) (omega arith)
+    let p = e .before .before .before .before .before .before .before .before .pre in
+    let l = e .before .before .loop in
+    within (p .0) (p .1) ((l .i - 1)) (omega arith)
 
 mul-stride : tie.Need-mul-stride Inv-loop μ-loop
 mul-stride c =
@@ -58,11 +65,53 @@ add-first c = omega arith
 sub-first : tie.Need-sub-first Inv-loop μ-loop
 sub-first c = omega arith
 
+mul-past : tie.Need-mul-past Inv-loop μ-loop
+mul-past c =
+    let p = c .before .before .before .pre in
+    omega (arith, past-near (p .0) (p .1))
+
+packed-requires : tie.Need-packed-requires Inv-loop μ-loop
+packed-requires c κs =
+    let s = c .before .before .before in
+    let h : s .args .step < 65536 = omega (arith, s .pre .1 .pace, s .pre .0 .places) in
+    (omega arith, h, h, omega arith)
+
+add-packed : tie.Need-add-packed Inv-loop μ-loop
+add-packed c =
+    let p = c .before .before .before .before .pre in
+    omega (arith, past-near (p .0) (p .1), p .0 .places)
+
+add-packed-2 : tie.Need-add-packed-2 Inv-loop μ-loop
+add-packed-2 c =
+    let p = c .before .before .before .before .pre in
+    omega (arith, past-near (p .0) (p .1), p .0 .places, p .1 .near)
+
+add-packed-3 : tie.Need-add-packed-3 Inv-loop μ-loop
+add-packed-3 c =
+    let p = c .before .before .before .before .pre in
+    omega (arith, past-near (p .0) (p .1), p .0 .places, p .1 .near)
+
+add-packed-4 : tie.Need-add-packed-4 Inv-loop μ-loop
+add-packed-4 c = omega arith
+
+packed-requires-2 : tie.Need-packed-requires-2 Inv-loop μ-loop
+packed-requires-2 c κs =
+    let p = c .before .before .before .before .pre in
+    let n = past-near (p .0) (p .1) in
+    (omega arith, omega (arith, n, p .0 .places), omega (arith, n, p .1 .near, p .0 .places), omega (arith, p .0 .enough, p .0 .short))
+
 loop-holds : tie.Need-loop-holds Inv-loop μ-loop
-loop-holds c = ((omega arith, (refl, (refl, refl))), λ b l r. r)
+loop-holds c = ((omega arith, (refl, (refl, refl))), c .packed2 .ensures, λ b l r. r)
 
 sub-i : tie.Need-sub-i Inv-loop μ-loop
 sub-i c = omega arith
+
+sub-x : tie.Need-sub-x Inv-loop μ-loop
+sub-x c =
+    let l = c .before in
+    let i : l .loop .i ≡ suc (l .loop .i - 1) = omega (arith, c .loop-test .taken) in
+    switch-above (l .before .before .before .before .before .before .args .step) _ _ _ (l .loop .i) (l .loop .i - 1) _ _ i
+    (l .before .before .packed .ensures) (l .loop .inv .1)
 
 add-s : tie.Need-add-s Inv-loop μ-loop
 add-s c = omega arith
@@ -70,46 +119,32 @@ add-s c = omega arith
 shared-slice-read-s : tie.Need-shared-slice-read-s Inv-loop μ-loop
 shared-slice-read-s c = omega arith
 
-mul-p : tie.Need-mul-p Inv-loop μ-loop
-mul-p c = omega (arith, lies c .place)
-
 mul-a : tie.Need-mul-a Inv-loop μ-loop
 mul-a c = omega (arith, lies c .ends)
 
 exchange-whole-requires : tie.Need-exchange-whole-requires Inv-loop μ-loop
 unfolding Bits
 exchange-whole-requires c κs =
-    let p = c .before .before .before .before .before .before .before .pre in
+    let p = c .before .before .before .before .before .before .before .before .before .pre in
     let x = lies (c .before) in
     (p .0 .settings _, p .3, omega (arith, x .apart, p .2), omega (arith, x .ends, p .2))
 
 add-exchange-rest : tie.Need-add-exchange-rest Inv-loop μ-loop
 add-exchange-rest c =
     let e = c .before .before .before .before .before in
-    omega (arith, lies e .ends, e .before .before .before .before .before .before .pre .2)
+    omega (arith, lies e .ends, e .before .before .before .before .before .before .before .before .pre .2)
 
 exchange-rest-requires : tie.Need-exchange-rest-requires Inv-loop μ-loop
 unfolding Bits
 exchange-rest-requires c κs =
     let w = c .before .before .before in
     let e = w .before .before in
-    let p = e .before .before .before .before .before .before .pre in
+    let p = e .before .before .before .before .before .before .before .before .pre in
     let x = lies e in
     (p .0 .settings _, omega (arith, x .apart, p .2), omega (arith, x .ends, p .2, w .exchange-whole .kept .0))
 
-add-write-entry : tie.Need-add-write-entry Inv-loop μ-loop
-add-write-entry c = omega (arith, lies (c .before .before .before .before .before .before .before .before .before) .place)
-
-add-write-entry-2 : tie.Need-add-write-entry-2 Inv-loop μ-loop
-add-write-entry-2 c = omega (arith, lies (c .before .before .before .before .before .before .before .before .before) .place)
-
-add-write-entry-3 : tie.Need-add-write-entry-3 Inv-loop μ-loop
-add-write-entry-3 c = omega (arith, lies (c .before .before .before .before .before .before .before .before .before) .place)
-
-write-entry-requires : tie.Need-write-entry-requires Inv-loop μ-loop
-write-entry-requires c κs =
-    let x = lies (c .before .before .before .before .before .before .before .before .before) .place in
-    (omega arith, omega (arith, x), omega (arith, x))
+write-packed-requires : tie.Need-write-packed-requires Inv-loop μ-loop
+write-packed-requires c κs = omega arith
 
 add-to : tie.Need-add-to Inv-loop μ-loop
 add-to c = omega arith
@@ -122,20 +157,27 @@ loop-again c =
     let w = c .before .before in
     let r = w .before .before .before .before in
     let x = r .before .before .before .before in
-    let l = x .before .before .before .before in
-    let s = l .before .before .before .before in
+    let n = x .before .before in
+    let l = n .before .before in
+    let s = l .before .before .before .before .before .before in
     let a = s .args in
     let j = l .loop .i - 1 in
     let first = length (a .bits .now) - (a .e + a .c) in
-    let at : first + j ≡ length (a .bits .now) - 1 - l .loop .to = omega arith in
+    let i : l .loop .i ≡ suc j = omega arith in
+    let place = lies n .place in
+    let now = switch-before (a .step) (a .gap) (a .o) first (l .loop .i) j _ _ i (l .before .before .packed .ensures) (l .loop .inv .1) in
     let k = r .exchange-rest .kept .0 ∙ x .exchange-whole .kept .0 in (
-      (omega arith, (omega arith, (k ∙ l .loop .inv .0 .1 .1 .0, w .write-entry .kept .0 ∙ l .loop .inv .0 .1 .1 .1))),
-      leads-more (a .width) (a .step) (a .gap) (a .o) (a .bits .now) (a .e) (a .blocks .now) (a .log .now) (a .c) (s .pre .1) (s .pre .0)
-          (l .loop .i) j (l .loop .to) _ (l .loop .blocks) (l .loop .log) (r .exchange-rest .last .0) (w .write-entry .last .0)
-          (omega arith) at (omega arith) (l .loop .inv .0 .1 .1 .0) k (omega arith) (l .loop .inv .1)
+      (omega arith, (omega arith, (k ∙ l .loop .inv .0 .1 .1 .0, w .write-packed .kept .0 ∙ l .loop .inv .0 .1 .1 .1))),
+      now,
+      leads-more (a .width) (a .step) (a .gap) (a .o) (a .bits .now) first (a .e) (a .blocks .now) (a .log .now) (a .c) (s .pre .1)
+          (s .pre .0) (l .loop .i) j (l .loop .to) (l .loop .blocks) (l .loop .log) (r .exchange-rest .last .0) (w .write-packed .last .0)
+          i (omega arith) (l .loop .inv .0 .1 .1 .0) k (omega (arith, s .pre .0 .room, l .loop .inv .0)) (l .loop .inv .2)
           (both-parts (a .width) (a .whole) (a .rest) (j * (a .step * a .width)) (a .gap * a .width)
           (getD (a .bits .now) (first + j) 0) (l .loop .blocks) (x .exchange-whole .last .0) (r .exchange-rest .last .0) (s .pre .2)
-          (x .exchange-whole .ensures) (r .exchange-rest .ensures)) (w .write-entry .ensures),
+          (x .exchange-whole .ensures) (r .exchange-rest .ensures))
+          (packed-written (l .loop .log) (w .write-packed .last .0) (entryWords * l .loop .to) _ 7 (a .o + j * a .step)
+          (a .o + (j * a .step + a .gap)) (first + j) now (omega arith) (omega (arith, place)) (omega (arith, place))
+          (w .write-packed .ensures)),
     )
 
 same-length : tie.Need-same-length Inv-loop μ-loop
@@ -147,9 +189,9 @@ same-length-2 c = c .before .loop .inv .0 .1 .1 .1
 returns : tie.Need-returns Inv-loop μ-loop
 returns c =
     let l = c .before in
-    let a = l .before .before .before .before .args in
-    leads-none (a .width) (a .step) (a .gap) (a .o) (a .bits .now) (a .e) (a .blocks .now) (a .log .now) (a .c) (l .loop .i) (l .loop .to)
-    (l .loop .blocks) (l .loop .log) (omega arith) (l .loop .inv .1)
+    let a = l .before .before .before .before .before .before .args in
+    leads-none (a .width) (a .step) (a .gap) (a .o) (a .bits .now) (length (a .bits .now) - (a .e + a .c)) (a .e) (a .blocks .now)
+    (a .log .now) (a .c) (l .loop .i) (l .loop .to) (l .loop .blocks) (l .loop .log) (omega arith) (l .loop .inv .2)
 
 pub in-parts-back-spec : {M : Type 1} → statement M
 in-parts-back-spec =
@@ -161,19 +203,23 @@ in-parts-back-spec =
     mul-across
     add-first
     sub-first
+    mul-past
+    packed-requires
+    add-packed
+    add-packed-2
+    add-packed-3
+    add-packed-4
+    packed-requires-2
     loop-holds
     sub-i
+    sub-x
     add-s
     shared-slice-read-s
-    mul-p
     mul-a
     exchange-whole-requires
     add-exchange-rest
     exchange-rest-requires
-    add-write-entry
-    add-write-entry-2
-    add-write-entry-3
-    write-entry-requires
+    write-packed-requires
     add-to
     loop-less
     loop-again

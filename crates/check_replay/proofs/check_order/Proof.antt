@@ -48,17 +48,8 @@ slice-aggregate-control-bits-in-3 c = search needs
 control-bits-in-requires : tie.Need-control-bits-in-requires
 control-bits-in-requires c κs = search needs
 
-run-requires : tie.Need-run-requires
-run-requires c κs = search needs
-
-tallied-requires-2 : tie.Need-tallied-requires-2
-tallied-requires-2 c κs = search needs
-
-alike-requires : tie.Need-alike-requires
-alike-requires c κs = search needs
-
-tallied-requires-3 : tie.Need-tallied-requires-3
-tallied-requires-3 c κs = search needs
+replayed-requires : tie.Need-replayed-requires
+replayed-requires c κs = search needs
 
 returns-2 : tie.Need-returns-2
 returns-2 c = search needs
@@ -81,8 +72,5 @@ check-order-spec =
     slice-aggregate-control-bits-in-2
     slice-aggregate-control-bits-in-3
     control-bits-in-requires
-    run-requires
-    tallied-requires-2
-    alike-requires
-    tallied-requires-3
+    replayed-requires
     returns-2)

@@ -24,7 +24,14 @@ apply-requires : tie.Need-apply-requires
 apply-requires c κs = search needs
 
 put-heading-requires : tie.Need-put-heading-requires
-put-heading-requires c κs = let s = c .before .before .before .before .before .before .before .before in let n = s .args .n in let bits = s .args .bits .now in let log = c .before .before .before .apply .last .1 .1 .1 .1 .0 in let e = picture-in n bits (take n (replicate 16 0)) (replicate 147 0) (s .pre .1) (s .pre .2) (s .pre .3) (length-take-le n (replicate 16 0) (omega (arith, s .pre .1))) refl (c .before .before .before .apply .ensures) in (s .pre .0, s .pre .1, s .pre .2, heading-room n bits log e (s .args .out .now) (s .args .at) (s .pre .4))
+put-heading-requires c κs =
+    let s = c .before .before .before .before .before .before .before .before in
+    let n = s .args .n in
+    let bits = s .args .bits .now in
+    let log = c .before .before .before .apply .last .1 .1 .1 .1 .0 in
+    let e = picture-in n bits (take n (replicate 16 0)) (replicate (entryWords * 49) 0) (s .pre .1) (s .pre .2) (s .pre .3)
+    (length-take-le n (replicate 16 0) (omega (arith, s .pre .1))) refl (c .before .before .before .apply .ensures) in
+    (s .pre .0, s .pre .1, s .pre .2, heading-room n bits log e (s .args .out .now) (s .args .at) (s .pre .4))
 
 slice-aggregate-put-rows : tie.Need-slice-aggregate-put-rows
 slice-aggregate-put-rows c = search needs
@@ -34,7 +41,18 @@ put-rows-requires c κs =
     let b4 = c .before .before .before .before in
     let b8 = b4 .before .before .before .before in
     let b13 = b8 .before .before .before .before .before in
-    let s = b13 in let n = s .args .n in let bits = s .args .bits .now in let log = b8 .apply .last .1 .1 .1 .1 .0 in let e = picture-in n bits (take n (replicate 16 0)) (replicate (entryWords * 49) 0) (s .pre .1) (s .pre .2) (s .pre .3) (length-take-le n (replicate 16 0) (omega (arith, s .pre .1))) refl (b8 .apply .ensures) in (s .pre .0, s .pre .1, s .pre .2, log-room n bits log (s .pre .1) (s .pre .2) (b8 .apply .kept .1 .1 .1 .1 .0), rows-room n bits log e (s .args .out .now) (s .args .at) (s .pre .4) (b4 .put-heading .ensures))
+    let s = b13 in
+    let n = s .args .n in
+    let bits = s .args .bits .now in
+    let log = b8 .apply .last .1 .1 .1 .1 .0 in
+    let e = picture-in n bits (take n (replicate 16 0)) (replicate (entryWords * 49) 0) (s .pre .1) (s .pre .2) (s .pre .3)
+    (length-take-le n (replicate 16 0) (omega (arith, s .pre .1))) refl (b8 .apply .ensures) in (
+      s .pre .0,
+      s .pre .1,
+      s .pre .2,
+      log-room n bits log (s .pre .1) (s .pre .2) (b8 .apply .kept .1 .1 .1 .1 .0),
+      rows-room n bits log e (s .args .out .now) (s .args .at) (s .pre .4) (b4 .put-heading .ensures),
+    )
 
 same-length : tie.Need-same-length
 same-length c = search needs
@@ -44,7 +62,14 @@ returns c =
     let b7 = c .before .before .before .before .before .before .before in
     let b11 = b7 .before .before .before .before in
     let b16 = b11 .before .before .before .before .before in
-    let s = b16 in let n = s .args .n in let bits = s .args .bits .now in let log = b11 .apply .last .1 .1 .1 .1 .0 in let e = picture-in n bits (take n (replicate 16 0)) (replicate (entryWords * 49) 0) (s .pre .1) (s .pre .2) (s .pre .3) (length-take-le n (replicate 16 0) (omega (arith, s .pre .1))) refl (b11 .apply .ensures) in picture-put n bits log e (s .args .out .now) (s .args .at) (s .pre .4) (b7 .put-heading .ensures) (c .before .before .put-rows .ensures)
+    let s = b16 in
+    let n = s .args .n in
+    let bits = s .args .bits .now in
+    let log = b11 .apply .last .1 .1 .1 .1 .0 in
+    let e = picture-in n bits (take n (replicate 16 0)) (replicate (entryWords * 49) 0) (s .pre .1) (s .pre .2) (s .pre .3)
+    (length-take-le n (replicate 16 0) (omega (arith, s .pre .1))) refl (b11 .apply .ensures) in
+    picture-put n bits log e (s .args .out .now) (s .args .at) (s .pre .4) (b7 .put-heading .ensures)
+    (c .before .before .put-rows .ensures)
 
 pub put-picture-spec : {M : Type 1} → statement M
 put-picture-spec =

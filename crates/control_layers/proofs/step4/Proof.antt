@@ -27,7 +27,7 @@ write-entry-requires : tie.Need-write-entry-requires
 write-entry-requires c κs =
     let s = c .before .before .before .before .before .before .before .before .before .before .before .before in
     let z = small (s .pre .1) (s .pre .0) in
-    (s .pre .4, omega (arith, z), omega (arith, z))
+    (s .pre .4, omega (arith, z), omega (arith, z), s .pre .6)
 
 sub-passed : tie.Need-sub-passed
 sub-passed c = search needs
@@ -51,7 +51,8 @@ returns c =
     let at16 = at13 .before .before .before in
     let a = at16 .args in
     let n = up (a .net .size) - 1 in (
-      went-one 4 (a .net .start) (a .net .size) n (a .w) (c .passed .result) (a .log .now) _ (ap (λ (r : Walk). r .e) (c .passed .ensures))
+      went-one 4 (a .net .start) (a .net .size) (a .w .b) n (a .w) (c .passed .result) (a .log .now) _
+          (ap (λ (r : Walk). r .e) (c .passed .ensures))
           (ap (λ (r : Walk). r .b) (c .passed .ensures)) (c .before .before .before .write-entry .ensures),
       λ ms.
           step4-is (a .net) (a .w .b) (a .vals .now) (a .trails .now) ms (a .bits .now) (a .w) (c .passed .result) n _ _ _ (x .0) (x .1)

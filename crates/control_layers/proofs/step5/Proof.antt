@@ -29,7 +29,7 @@ write-entry-requires : tie.Need-write-entry-requires
 write-entry-requires c κs =
     let s = c .before .before .before .before .before .before .before .before .before .before .before in
     let z = small (s .pre .1) (s .pre .0) in
-    (s .pre .4, omega (arith, z), omega (arith, z))
+    (s .pre .4, omega (arith, z), omega (arith, z), s .pre .7)
 
 passed-requires : tie.Need-passed-requires
 passed-requires c κs = search needs
@@ -46,7 +46,8 @@ same-length-3 c = search needs
 returns : tie.Need-returns
 returns c =
     let a = c .before .before .before .before .before .before .before .before .before .before .before .before .before .before .before .args in (
-      went-one 5 (a .net .start) (a .net .size) 0 (a .w) (c .passed .result) (a .log .now) _ (ap (λ (r : Walk). r .e) (c .passed .ensures))
+      went-one 5 (a .net .start) (a .net .size) (a .first) 0 (a .w) (c .passed .result) (a .log .now) _
+          (ap (λ (r : Walk). r .e) (c .passed .ensures))
           (ap (λ (r : Walk). r .b) (c .passed .ensures)) (c .before .before .before .write-entry .ensures),
       λ ms bs bit.
           step5-is (a .net) bit (a .vals .now) (a .trails .now) ms bs (a .w) (c .passed .result) 0 _ _

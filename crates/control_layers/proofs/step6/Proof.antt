@@ -44,7 +44,7 @@ write-entry-requires c κs =
     let at22 = at13 .before .before .before .before .before .before .before .before .before in
     let s = at22 in
     let z = small (s .pre .1) (s .pre .0) in
-    (s .pre .4, omega (arith, z), omega (arith, z))
+    (s .pre .4, omega (arith, z), omega (arith, z), s .pre .7)
 
 sub-passed : tie.Need-sub-passed
 sub-passed c = search needs
@@ -70,7 +70,8 @@ returns c =
     let at26 = at13 .before .before .before .before .before .before .before .before .before .before .before .before .before in
     let a = at26 .args in
     let n = down (a .net .size) in (
-      went-one 6 (a .net .start) (a .net .size) n (a .w) (c .passed .result) (a .log .now) _ (ap (λ (r : Walk). r .e) (c .passed .ensures))
+      went-one 6 (a .net .start) (a .net .size) (a .first) n (a .w) (c .passed .result) (a .log .now) _
+          (ap (λ (r : Walk). r .e) (c .passed .ensures))
           (ap (λ (r : Walk). r .b) (c .passed .ensures)) (c .before .before .before .write-entry .ensures),
       λ ms bit e.
           step6-is (a .net) bit (a .vals .now) (a .trails .now) ms (a .bits .now) (a .w) (c .passed .result) n (a .w .b) _ _ _ _ _

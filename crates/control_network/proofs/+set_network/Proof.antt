@@ -146,7 +146,8 @@ set-network-returns t c =
     let a = c .before .before .before .before .before .before .before .args in
     let h : a .net .size < 2 = c .if1 .taken in
     let wiring = wiringOf (a .net .topology) in (
-      went-as (entries-none wiring (placeOf (a .net)) (a .net .size) h) (sym (W-none (a .net .size) h)) (went-none (a .w) (a .log .now)),
+      went-as (entries-none wiring (placeOf (a .net)) (a .net .size) (a .w .b) h) (sym (W-none (a .net .size) h))
+          (went-none (a .w) (a .log .now)),
       λ j l. net-none wiring (placeOf (a .net)) (a .net .size) (a .w .b)
           (unmarked j (a .vals .now) (a .trails .now) (a .bits .now) (a .w)) h,
     )
@@ -291,7 +292,7 @@ set-network-same-length-5 t c =
     let at23 = at13 .before .before .before .before .before .before .before .before .before .before in
     let z = at23 in
     let y = y-of t z in
-    c .before .before .before .before .before .before .before .before .step6 .kept .1 .1 .1 .1 .0 ∙
+    c .before .before .before .before .before .before .before .before .step6 .kept .1 .1 .1 .1 .1 .0 ∙
     z .set-network2 .kept .1 .1 .1 .1 .1 .1 .0 ∙ y .set-network .kept .1 .1 .1 .1 .1 .1 .0 ∙
     (x-of t y) .enter .kept .1 .1 .1 .1 .1 .1 .0
 

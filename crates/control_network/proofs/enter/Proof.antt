@@ -37,9 +37,17 @@ step5-requires c κs =
       covers-kept (x .last .0) (x .kept .0) (R .values-room),
       covers-kept (x .last .1 .0) (x .kept .1 .0) (R .trails-room),
       omega (arith, R .few, x .ensures .0 .bit, W-parts (a .net .size) (s .pre .0)),
-      omega (arith, R .log-room, x .kept .1 .1 .1 .1 .1 .1 .0, x .ensures .0 .count, E-parts (a .net .start) (a .net .size) (s .pre .0)),
+      omega (
+        arith,
+        R .log-room,
+        x .kept .1 .1 .1 .1 .1 .1 .0,
+        x .ensures .0 .count,
+        E-parts (a .net .start) (a .net .size) (a .w .b)
+            (s .pre .0),
+      ),
       rw (ap (λ (q : State). q .values) is) (values-within (a .net) far (a .w .b) (s .pre .0) before (s .pre .3) few),
       rw (ap (λ (q : State). q .trails) is) (trails-within (a .net) far (a .w .b) (s .pre .0) before (s .pre .3) (s .pre .4)),
+      omega (arith, R .few),
     )
 
 same-length : tie.Need-same-length
@@ -68,7 +76,8 @@ returns c =
     let at20 = at13 .before .before .before .before .before .before .before in
     let x = at20 .input-steps in
     let y = c .before .before .before .before .before .before .step5 in (
-      went-as refl (omega arith) (went-then (omega (arith, s .pre .1 .log-room, E-parts (a .net .start) (a .net .size) (s .pre .0)))
+      went-as refl (omega arith)
+          (went-then (omega (arith, s .pre .1 .log-room, E-parts (a .net .start) (a .net .size) (a .w .b) (s .pre .0)))
           (x .ensures .0) (y .ensures .0)),
       λ j l.
           y .ensures .1 (replicate j 0) (x .last .1 .1 .1 .1 .0) (a .w .b)

@@ -2,12 +2,13 @@
 -- Assumes nothing.
 use native.Mathlib.Omega.{arith}
 use borrow.Author.Needs.{needs}
-use mathlib.Core.Path.{_≡_, sym, ap, _∙_}
-use mathlib.Core.List.{List}
+use mathlib.Core.Path.{_≡_, refl, sym, ap, _∙_}
+use mathlib.Core.List.{List, [], _∷_}
 use Prim.Native.Nat.{ℕ, _≤_, _<_}
 use lib.ListN.{replicate}
 use Rattle.counts.specs.Counts.{up}
 use Rattle.counts.proofs.Rule.{E-more}
+use Rattle.network.specs.Log.{entry}
 use Rattle.steps.specs.State.{State}
 use Rattle.steps.specs.Steps.{step4}
 use Rattle.steps.proofs.Lengths.{length-rounds}
@@ -28,7 +29,7 @@ returns c =
     let s = c .before .before .before .before .before .before .before in
     let a = s .args in
     let h : a .net .size < 3 = c .if1 .taken in (
-      went-as (input-none (a .net .start) (a .net .size) h) (omega (arith, s .pre .0)) (went-none (a .w) (a .log .now)),
+      went-as (input-none (a .net .start) (a .net .size) (a .w .b) h) (omega (arith, s .pre .0)) (went-none (a .w) (a .log .now)),
       λ j l. steps-none (wiringOf (a .net .topology)) (subnetworkOf (a .net) (a .w .b))
           (unmarked j (a .vals .now) (a .trails .now) (a .bits .now) (a .w)) h,
     )
@@ -48,6 +49,7 @@ settle-inputs-requires c κs =
           (small (R .values-room) (s .pre .0) .0) (s .pre .3),
       s .pre .2 .f-below,
       s .pre .2 .c-below,
+      omega (arith, R .few),
     )
 
 step4-requires : tie.Need-step4-requires
@@ -81,11 +83,12 @@ step4-requires c κs =
         R .log-room,
         x .kept .1 .1 .1 .1 .1 .0,
         x .ensures .0 .count,
-        length-rounds k (a .net .start) (a .net .size),
+        length-rounds k (a .net .start) (a .net .size) (a .w .b),
         E-more
             (a .net .size) h,
       ),
       T .bits-below,
+      omega (arith, R .few, x .ensures .0 .bit),
     )
 
 same-length : tie.Need-same-length
@@ -120,9 +123,15 @@ returns-2 c =
     let k = up (a .net .size) in
     let wiring = wiringOf (a .net .topology) in
     let b : x .result .b ≡ a .w .b = omega (arith, x .ensures .0 .bit) in (
-      went-as (input-some (a .net .start) (a .net .size) h) (omega arith)
-          (went-then (omega (arith, s .pre .1 .log-room, length-rounds k (a .net .start) (a .net .size), E-more (a .net .size) h))
-          (x .ensures .0) (y .ensures .0)),
+      went-as (input-some (a .net .start) (a .net .size) (a .w .b) h) (omega arith)
+          (went-then (omega (
+            arith,
+            s .pre .1 .log-room,
+            length-rounds k (a .net .start) (a .net .size) (a .w .b),
+            E-more (a .net .size)
+                h,
+          ))
+          (x .ensures .0) (went-as (ap (λ n. entry 4 (a .net .start) (a .net .size) n ∷ []) b) refl (y .ensures .0))),
       λ j l.
           let marks : List ℕ = marksIn k (x .last .1 .0) (replicate j 0) in
           ap (λ (ms : List ℕ). state (y .last .0) (y .last .1 .0) ms (x .last .1 .1 .1 .0) (y .result))

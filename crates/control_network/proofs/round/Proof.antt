@@ -2,11 +2,12 @@
 -- Assumes nothing.
 use native.Mathlib.Omega.{arith}
 use borrow.Author.Needs.{needs}
-use mathlib.Core.Path.{sym, ap, _∙_}
+use mathlib.Core.Path.{_≡_, refl, sym, ap, _∙_}
 use mathlib.Core.Bool.{Bool, not}
-use mathlib.Core.List.{List}
+use mathlib.Core.List.{List, [], _∷_}
 use Prim.Native.Nat.{ℕ, _-_}
 use Rattle.counts.specs.Counts.{up}
+use Rattle.network.specs.Log.{entry}
 use Rattle.steps.specs.Steps.{digit, step2, step3}
 use Rattle.steps.specs.Fold.{roundsOf}
 use Rattle.control_numbers.proofs.Numbers.{digit-small}
@@ -14,7 +15,7 @@ use Rattle.control_pairs.specs.Pairs.{marksIn, bitsIn, noneIn}
 use Rattle.control_pairs.proofs.Held.{none-held}
 use Rattle.wirings.specs.Nets.{wiringOf}
 use Rattle.control_walk.specs.Walks.{lying}
-use Rattle.control_network.proofs.Entries.{went-then}
+use Rattle.control_network.proofs.Entries.{went-then, went-as}
 use Rattle.control_network.proofs.round.Statement.{statement}
 use Rattle.control_network.proofs.round.Tie as tie
 
@@ -31,13 +32,21 @@ step1-requires c κs =
       H .c-below,
       rw (H .any-is)
           (digit-small (not (noneIn (up (a .args .net .size)) (a .args .pairs .now)))),
+      a .pre .8,
     )
 
 step2-requires : tie.Need-step2-requires
 step2-requires c κs =
     let a = c .before .before .before .before .before .before .before in
-    let x = c .before .before .before .step1 in
-    (a .pre .0, a .pre .1, a .pre .2, omega (arith, a .pre .4, x .ensures .0 .count), a .pre .6, x .ensures .2 .2)
+    let x = c .before .before .before .step1 in (
+      a .pre .0,
+      a .pre .1,
+      a .pre .2,
+      omega (arith, a .pre .4, x .ensures .0 .count),
+      a .pre .6,
+      x .ensures .2 .2,
+      omega (arith, a .pre .8, x .ensures .0 .bit),
+    )
 
 step3-requires : tie.Need-step3-requires
 step3-requires c κs =
@@ -57,6 +66,7 @@ step3-requires c κs =
         c-below = omega (arith, y .ensures .2 .1, x .ensures .2 .1);
       },
       y .ensures .2 .2,
+      omega (arith, a .pre .8, x .ensures .0 .bit, y .ensures .0 .bit),
     )
 
 same-length : tie.Need-same-length
@@ -76,9 +86,14 @@ returns c =
     let x = c .before .before .before .before .before .before .before .before .before .before .before .before .before .step1 in
     let y = c .before .before .before .before .before .before .before .before .before .step2 in
     let z = c .before .before .before .before .step3 in
-    let k = up (a .net .size) in (
-      went-then (omega (arith, p .4)) (x .ensures .0)
-          (went-then (omega (arith, p .4, x .ensures .0 .count)) (y .ensures .0) (z .ensures .0)),
+    let o = a .net .start in
+    let m = a .net .size in
+    let k = up m in
+    let xb : x .result .b ≡ a .w .b = omega (arith, x .ensures .0 .bit) in
+    let yb : y .result .b ≡ a .w .b = omega (arith, xb, y .ensures .0 .bit) in (
+      went-as (λ i. entry 1 o m (a .w .b) ∷ entry 2 o m (xb i) ∷ entry 3 o m (yb i) ∷ []) refl
+          (went-then (omega (arith, p .4)) (x .ensures .0)
+          (went-then (omega (arith, p .4, x .ensures .0 .count)) (y .ensures .0) (z .ensures .0))),
       z .ensures .1,
       λ place vs ts ms bs bit G long.
           let marks : List ℕ = marksIn k (a .pairs .now) ms in

@@ -4,8 +4,9 @@ use native.Mathlib.Omega.{arith}
 use mathlib.Core.Path.{_≡_, refl, ap, _∙_}
 use Prim.Native.Nat.{ℕ, _-_, _≤_, _<_}
 use lib.ListN.{length}
-use mathlib.Core.List.{List}
+use mathlib.Core.List.{List, [], _∷_}
 use Rattle.counts.specs.Counts.{up}
+use Rattle.network.specs.Log.{entry}
 use Rattle.steps.specs.Sequence.{rounds}
 use Rattle.steps.specs.Fold.{roundsOf}
 use Rattle.steps.proofs.Lengths.{length-rounds}
@@ -20,8 +21,8 @@ use Rattle.control_network.proofs.rounds.Tie as tie
 
 abbrev Inv-loop : tie.InvT-loop
 Inv-loop row pairs₀ net log₀ k x₀ i₀ pairs log x i =
-    ((i ≤ up (net .size)) × (length pairs ≡ length pairs₀) × (length log ≡ length log₀)) × Went (rounds i (net .start) (net .size)) 0 x₀
-    x log₀ log
+    ((i ≤ up (net .size)) × (length pairs ≡ length pairs₀) × (length log ≡ length log₀))
+    × Went (rounds i (net .start) (net .size) (x₀ .b)) 0 x₀ x log₀ log
     × Held (up (net .size)) pairs x
     × ((place : ℕ → ℕ) (vs ts ms bs : List ℕ) (bit : ℕ) → Gathered place (net .size) vs row → up (net .size) ≤ length ms
     → state vs ts (marksIn (up (net .size)) pairs ms) (bitsIn bit (up (net .size) - 1) pairs bs) x
@@ -49,10 +50,18 @@ round-requires c κs =
       a .pre .1,
       a .pre .2,
       omega (arith, a .pre .3, l .inv .0 .1),
-      omega (arith, a .pre .4, l .inv .0 .2, l .inv .1 .count, length-rounds (l .i) (a .args .net .start) (a .args .net .size)),
+      omega (
+        arith,
+        a .pre .4,
+        l .inv .0 .2,
+        l .inv .1 .count,
+        length-rounds (l .i) (a .args .net .start) (a .args .net .size)
+            (a .args .w .b),
+      ),
       a .pre .5,
       a .pre .6,
       l .inv .2,
+      omega (arith, a .pre .8, l .inv .1 .bit),
     )
 
 add-i : tie.Need-add-i Inv-loop μ-loop
@@ -66,11 +75,15 @@ loop-again c =
     let a = c .before .before .before .before .before .before .before .before .before .before .before .before in
     let l = c .before .before .before .before .before .before .before .before .loop in
     let r = c .before .before .before .before .round in
-    let i : l .i < up (a .args .net .size) = c .before .before .before .before .before .before .before .loop-test .taken in (
+    let i : l .i < up (a .args .net .size) = c .before .before .before .before .before .before .before .loop-test .taken in
+    let o = a .args .net .start in
+    let m = a .args .net .size in
+    let b : l .x .b ≡ a .args .w .b = omega (arith, l .inv .1 .bit) in (
       (omega (arith, i), r .kept .1 .0 ∙ l .inv .0 .1, r .kept .1 .1 .1 .0 ∙ l .inv .0 .2),
-      went-as (rounds-more (l .i) (a .args .net .start) (a .args .net .size)) refl
-          (went-then (omega (arith, i, a .pre .4, length-rounds (l .i) (a .args .net .start) (a .args .net .size))) (l .inv .1)
-          (r .ensures .0)),
+      went-as (rounds-more (l .i) o m (a .args .w .b)) refl
+          (went-then (omega (arith, i, a .pre .4, length-rounds (l .i) (a .args .net .start) (a .args .net .size) (a .args .w .b)))
+          (l .inv .1)
+          (went-as (ap (λ b. entry 1 o m b ∷ entry 2 o m b ∷ entry 3 o m b ∷ []) b) refl (r .ensures .0))),
       r .ensures .1,
       λ place vs ts ms bs bit G long.
           r .ensures .2 place vs ts ms bs bit G long

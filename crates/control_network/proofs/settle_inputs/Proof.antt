@@ -2,7 +2,7 @@
 -- Assumes nothing.
 use native.Mathlib.Omega.{arith}
 use borrow.Author.Needs.{needs}
-use mathlib.Core.Path.{sym, ap, _∙_}
+use mathlib.Core.Path.{refl, sym, ap, _∙_}
 use mathlib.Core.Bool.{Bool, not}
 use mathlib.Core.List.{List}
 use Prim.Native.Nat.{ℕ, _-_, _≤_}
@@ -10,6 +10,7 @@ use lib.ListN.{replicate, length-replicate}
 use Rattle.counts.specs.Counts.{up}
 use Rattle.steps.specs.State.{State}
 use Rattle.steps.specs.Steps.{digit}
+use Rattle.steps.specs.Sequence.{rounds}
 use Rattle.steps.specs.Fold.{roundsOf}
 use Rattle.wirings.specs.Nets.{wiringOf, placeOf}
 use Rattle.control_sweeps.proofs.Places.{small}
@@ -17,7 +18,7 @@ use Rattle.control_pairs.specs.Pairs.{marksIn, bitsIn, Numbered}
 use Rattle.control_pairs.proofs.Held.{unmarked-numbered, unmarked-none, unmarked-marks, unmarked-bits}
 use Rattle.control_walk.specs.declared.Walk.{Walk}
 use Rattle.control_walk.specs.Walks.{state, subnetworkOf}
-use Rattle.control_network.proofs.Entries.{went-from, small-gathered}
+use Rattle.control_network.proofs.Entries.{went-as, went-from, small-gathered}
 use Rattle.control_network.proofs.settle_inputs.Statement.{statement}
 use Rattle.control_network.proofs.settle_inputs.Tie as tie
 
@@ -61,6 +62,7 @@ rounds-requires c κs =
         f-below = omega (arith, s .pre .6, ap (λ (r : Walk). r .f) (w .ensures));
         c-below = omega (arith, s .pre .7, ap (λ (r : Walk). r .c) (w .ensures));
       },
+      omega (arith, s .pre .8, ap (λ (r : Walk). r .b) (w .ensures)),
     )
 
 sub-give-bits : tie.Need-sub-give-bits
@@ -110,7 +112,8 @@ returns c =
     let at18 = at13 .before .before .before .before .before in
     let g = at18 .gather in
     let few : k ≤ 512 = omega (arith, small (s .pre .1) (s .pre .0)) in (
-      went-from (a .w) (w .result) (ap (λ (x : Walk). x .e) (w .ensures)) (ap (λ (x : Walk). x .b) (w .ensures)) (r .ensures .0),
+      went-from (a .w) (w .result) (ap (λ (x : Walk). x .e) (w .ensures)) (ap (λ (x : Walk). x .b) (w .ensures))
+          (went-as (ap (λ (x : Walk). rounds k (a .net .start) (a .net .size) (x .b)) (w .ensures)) refl (r .ensures .0)),
       λ ts j h.
           let ms : List ℕ = replicate {A = ℕ} j 0 in
           let of : List ℕ → List ℕ → Walk → State = λ marks bits x. state (a .vals .now) ts marks bits x in

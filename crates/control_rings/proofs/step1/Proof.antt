@@ -61,7 +61,7 @@ returns c =
     let last : n .result < 32768 = rw (n .ensures)
     (first-below (a .net .topology) (up (a .net .size)) (up (a .net .size) - 1) (omega (arith, s .pre .1))) in
     let f : p .result < 32768 = rw (p .ensures) (pick-below (eqb (a .w .any) 1) (s .pre .5) last) in (
-      went-one 1 (a .net .start) (a .net .size) 0 (a .w) _ (a .log .now) _ (omega arith) (omega arith)
+      went-one 1 (a .net .start) (a .net .size) (a .w .b) 0 (a .w) _ (a .log .now) _ (omega arith) (omega arith)
           (c .before .before .write-entry .ensures),
       refl,
       (

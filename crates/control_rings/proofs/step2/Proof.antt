@@ -42,7 +42,7 @@ returns c =
     let s = c .before .before .before .before .before .before .before in
     let a = s .args in
     let small = other-below (a .net .topology) (up (a .net .size)) (a .w .g) (omega (arith, s .pre .1)) (s .pre .5) in (
-      went-one 2 (a .net .start) (a .net .size) 0 (a .w) _ (a .log .now) _ (omega arith) (omega arith)
+      went-one 2 (a .net .start) (a .net .size) (a .w .b) 0 (a .w) _ (a .log .now) _ (omega arith) (omega arith)
           (c .before .before .write-entry .ensures),
       refl,
       (refl, refl, rw (q .ensures) (seek-below (λ i. i) (a .net .size) (a .row .now) (o .result) (omega arith) (rw (o .ensures) small))),

@@ -90,7 +90,8 @@ returns c =
     let small = turned-small (a .net .topology) k (T .result) (a .w .any) (a .w) (omega arith) (omega (arith, low-within (T .ensures)))
     (s .pre .6) (H .c-below) in
     let any = any-after (a .w .any) (b .result) (T .ensures) few (s .pre .3) (bit .1) (H .numbered) (H .any-is) (b .ensures .0) in (
-      went-one 3 (a .net .start) (a .net .size) 0 (a .w) (c .turn .result) (a .log .now) _ (ap (λ (r : Walk). r .e) (c .turn .ensures))
+      went-one 3 (a .net .start) (a .net .size) (a .w .b) 0 (a .w) (c .turn .result) (a .log .now) _
+          (ap (λ (r : Walk). r .e) (c .turn .ensures))
           (ap (λ (r : Walk). r .b) (c .turn .ensures) ∙ omega arith) (c .before .before .before .write-entry .ensures),
       record {
         numbered = settled-numbered (T .ensures) few (s .pre .3) (bit .1) (H .numbered);

@@ -1,69 +1,36 @@
--- The words of an entry, one after the other.
+-- An entry is packed, and written.
 -- Assumes nothing.
 use native.Mathlib.Omega.{arith}
 use borrow.Author.Needs.{needs}
+use mathlib.Core.Path.{ap, _∙_}
 use Prim.Native.Nat.{_*_}
-use lib.ListN.{length-set}
 use Rattle.network.specs.Log.{entryWords}
-use Rattle.entry_log.proofs.Written.{entry-written}
+use Rattle.entry_log.specs.Packed.{packed}
+use Rattle.entry_log.proofs.Written.{packed-written}
 use Rattle.entry_log.proofs.write_entry.Statement.{statement}
 use Rattle.entry_log.proofs.write_entry.Tie as tie
 
-mul-at : tie.Need-mul-at
-mul-at c = search needs
+wide-requires : tie.Need-wide-requires
+wide-requires c κs = search needs
 
-mul-log : tie.Need-mul-log
-mul-log c = search needs
+packed-requires : tie.Need-packed-requires
+packed-requires c κs = search needs
 
-slice-write-log : tie.Need-slice-write-log
-slice-write-log c = search needs
-
-cast-log : tie.Need-cast-log
-cast-log c = search needs
-
-add-log : tie.Need-add-log
-add-log c = search needs
-
-mul-log-2 : tie.Need-mul-log-2
-mul-log-2 c = search needs
-
-slice-write-log-2 : tie.Need-slice-write-log-2
-slice-write-log-2 c = simp length-set (omega arith)
-
-cast-log-2 : tie.Need-cast-log-2
-cast-log-2 c = search needs
-
-add-log-2 : tie.Need-add-log-2
-add-log-2 c = search needs
-
-mul-log-3 : tie.Need-mul-log-3
-mul-log-3 c = search needs
-
-slice-write-log-3 : tie.Need-slice-write-log-3
-slice-write-log-3 c = simp length-set (omega arith)
+write-packed-requires : tie.Need-write-packed-requires
+write-packed-requires c κs = search needs
 
 same-length : tie.Need-same-length
 same-length c = search needs
 
 returns : tie.Need-returns
 returns c =
-    let a = c .args in
-    entry-written (a .log .now) (entryWords * a .e) (a .kind) (a .first) (a .second) (omega arith)
+    let s = c .before .before .before .before .before .before .before in
+    let a = s .args in
+    let x = c .before .before .before .packed in
+    let kind = c .before .before .before .before .wide in
+    packed-written (a .log .now) _ (entryWords * a .e) (x .result) (a .kind) (a .first) (a .second) (a .bit)
+    (x .ensures ∙ ap (λ k. packed k (a .first) (a .second) (a .bit)) (kind .ensures))
+    (omega arith) (s .pre .1) (s .pre .2) (c .before .before .write-packed .ensures)
 
 pub write-entry-spec : {M : Type 1} → statement M
-write-entry-spec =
-    tie.close
-    (tie.spec
-    mul-at
-    mul-log
-    slice-write-log
-    cast-log
-    add-log
-    mul-log-2
-    slice-write-log-2
-    cast-log-2
-    add-log-2
-    mul-log-3
-    slice-write-log-3
-    same-length
-    returns)
+write-entry-spec = tie.close (tie.spec wide-requires packed-requires write-packed-requires same-length returns)

@@ -2,16 +2,17 @@
 -- Assumes nothing.
 use borrow.Author.Needs.{needs}
 use mathlib.Core.Path.{_≡_}
-use Prim.Native.Nat.{_+_, _-_, _≤_}
+use Prim.Native.Nat.{_-_}
 use lib.ListN.{length}
 use Rattle.check_apply.proofs.plain.run.Statement.{statement}
 use Rattle.check_apply.proofs.plain.run.Tie as tie
 
 abbrev Inv-loop : tie.InvT-loop
-Inv-loop blocks₀ width lower upper count bits log₀ back at₀ e₀ blocks log at e = (e ≤ count) × ((length blocks ≡ length blocks₀) × (length log ≡ length log₀))
+Inv-loop blocks₀ width lower upper count bits log₀ back from to e₀ blocks log e =
+    (length blocks ≡ length blocks₀) × (length log ≡ length log₀)
 
 abbrev μ-loop : tie.MeasureT-loop
-μ-loop blocks₀ width lower upper count bits log₀ back at₀ e₀ blocks log at e = count - e
+μ-loop blocks₀ width lower upper count bits log₀ back from to e₀ blocks log e = to - e
 
 loop-holds : tie.Need-loop-holds Inv-loop μ-loop
 loop-holds c = search needs
@@ -39,9 +40,6 @@ get-requires-4 c κs = search needs
 
 write-words-requires : tie.Need-write-words-requires Inv-loop μ-loop
 write-words-requires c κs = search needs
-
-add-requires : tie.Need-add-requires Inv-loop μ-loop
-add-requires c κs = search needs
 
 add-e : tie.Need-add-e Inv-loop μ-loop
 add-e c = search needs
@@ -76,7 +74,6 @@ run-spec =
     get-requires-3
     get-requires-4
     write-words-requires
-    add-requires
     add-e
     loop-less
     loop-again

@@ -6,10 +6,10 @@ use Rattle.check_neighbour.proofs.logs.write_rounds.Statement.{statemen
 use Rattle.check_neighbour.proofs.logs.write_rounds.Tie as tie
 
 abbrev Inv-loop : tie.InvT-loop
-Inv-loop log₀ e o m k at₀ i₀ log at i = i ≤ k
+Inv-loop log₀ e o m bit k at₀ i₀ log at i = i ≤ k
 
 abbrev μ-loop : tie.MeasureT-loop
-μ-loop log₀ e o m k at₀ i₀ log at i = k - i
+μ-loop log₀ e o m bit k at₀ i₀ log at i = k - i
 
 up-requires : tie.Need-up-requires Inv-loop μ-loop
 up-requires c κs = search needs

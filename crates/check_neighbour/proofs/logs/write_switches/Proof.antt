@@ -17,11 +17,11 @@ loop-holds c = search needs
 add-requires : tie.Need-add-requires Inv-loop μ-loop
 add-requires c κs = search needs
 
-entry-of-requires : tie.Need-entry-of-requires Inv-loop μ-loop
-entry-of-requires c κs = search needs
-
 add-requires-2 : tie.Need-add-requires-2 Inv-loop μ-loop
 add-requires-2 c κs = search needs
+
+turned-requires : tie.Need-turned-requires Inv-loop μ-loop
+turned-requires c κs = search needs
 
 write-requires : tie.Need-write-requires Inv-loop μ-loop
 write-requires c κs = search needs
@@ -49,8 +49,8 @@ write-switches-spec =
     μ-loop
     loop-holds
     add-requires
-    entry-of-requires
     add-requires-2
+    turned-requires
     write-requires
     add-requires-3
     add-i
