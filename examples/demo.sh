@@ -7,10 +7,14 @@ say '' 'In the mixed file the same blocks stand in a secret order (these name th
 head -n 4 month.mixed
 step show month.sheet || return
 say 'Behind the word order stands the place to which the first block went (places count from 0), then that of the second, and so on.'
-say '' 'For thirty years, the sheet may be a printed card:'
+say '' 'The label says what was mixed into what, by SHA-256. It is as secret as the sheet, and is kept with it:'
+cat month.label
+say '' 'For thirty years, sheet and label may be a printed card:'
 step card month.sheet || return
+say '' 'Once a year, look whether all is as it was:'
+step verify month.sheet || return
 say '' 'Whoever brings the sheet gets the month back:'
-step return 40 month.mixed month.sheet month.back || return
+step return month.mixed month.sheet month.back || return
 head -n 4 month.back
 cmp month month.back || return 3
 say 'month.back is month, to the byte.'

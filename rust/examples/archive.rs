@@ -2,31 +2,41 @@
 //!
 //!     cargo run --example archive -- mix WIDTH BLOCKS MIXED SHEET
 //!     cargo run --example archive -- return WIDTH MIXED SHEET BLOCKS
+//!
+//! Before anything is written the work is done backwards and compared. Nothing that exists is written over, and what is made can be read
+//! by its owner alone: a sheet is secret.
 
-use lomuveran::{Permutation, Setting};
-use std::{env, error::Error, fs, fs::File, io::Read};
+mod common;
 
-/// Random words for an order of n places, and 64 to spare: some may be skipped.
-fn words(n: usize) -> Result<Vec<u32>, Box<dyn Error>> {
-    let mut bytes = vec![0; 4 * (n + 64)];
-    File::open("/dev/urandom")?.read_exact(&mut bytes)?;
-    Ok(bytes.chunks_exact(4).map(|word| u32::from_le_bytes([word[0], word[1], word[2], word[3]])).collect())
-}
+use common::{create, drawn};
+use lomuveran::Setting;
+use std::{env, error::Error, fs};
 
 fn mix(width: usize, blocks: &str, mixed: &str, sheet: &str) -> Result<(), Box<dyn Error>> {
-    let mut bytes = fs::read(blocks)?;
-    let n = bytes.len().checked_div(width).unwrap_or(0);
-    let order = Permutation::shuffle(n, &words(n)?)?;
-    let setting = Setting::control_bits(&order);
+    let month = fs::read(blocks)?;
+    let setting = Setting::control_bits(&drawn(month.len().checked_div(width).unwrap_or(0))?);
+    let mut bytes = month.clone();
     setting.apply(width, &mut bytes)?;
-    fs::write(sheet, setting.write_sheet())?;
-    Ok(fs::write(mixed, bytes)?)
+    let written = setting.write_sheet();
+    let mut back = bytes.clone();
+    Setting::read_sheet(&written)?.apply_inverse(width, &mut back)?;
+    if back != month {
+        return Err(format!("{blocks}: put back, the mixed blocks are not these").into());
+    }
+    create(&[(sheet, &written), (mixed, &bytes)])
 }
 
 fn put_back(width: usize, mixed: &str, sheet: &str, blocks: &str) -> Result<(), Box<dyn Error>> {
-    let mut bytes = fs::read(mixed)?;
-    Setting::read_sheet(&fs::read(sheet)?)?.apply_inverse(width, &mut bytes)?;
-    Ok(fs::write(blocks, bytes)?)
+    let lent = fs::read(mixed)?;
+    let setting = Setting::read_sheet(&fs::read(sheet)?)?;
+    let mut bytes = lent.clone();
+    setting.apply_inverse(width, &mut bytes)?;
+    let mut again = bytes.clone();
+    setting.apply(width, &mut again)?;
+    if again != lent {
+        return Err(format!("{mixed}: mixed again, the blocks are not these").into());
+    }
+    create(&[(blocks, &bytes)])
 }
 
 fn main() -> Result<(), Box<dyn Error>> {

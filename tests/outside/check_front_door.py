@@ -11,10 +11,12 @@ import sys
 import tempfile
 
 import door as harness
+import door_guard
+import door_labels
 import door_trouble
 import rule
 import setter
-from door import MADE, Door, rng, same, sheet_of
+from door import MADE, Door, made, rng, same, sheet_of
 
 
 # ---- the whole job
@@ -24,19 +26,19 @@ def whole_job(door):
         data = rng.randbytes(n * width)
         door.fresh(month=data)
         before = os.stat(door.path('month'))
-        made = {'month': 0o644, 'month.mixed': MADE, 'month.sheet': MADE}
-        door.call(0, 'mix', str(width), 'month', files=made, err='' if n else 'month: it is empty; its sheet will be that of 0 blocks',
-                  out=f'month: {n} blocks of {width} bytes, mixed, put back and compared: month.mixed and month.sheet\n')
+        files = {'month': 0o644} | made('month')
+        door.call(0, 'mix', str(width), 'month', files=files, err='' if n else 'month: it is empty; its sheet will be that of 0 blocks',
+                  out=f'month: {n} blocks of {width} bytes, mixed, put back and compared: month.mixed, month.sheet and month.label\n')
         after = os.stat(door.path('month'))
         same((after.st_mtime_ns, after.st_ino, door.read('month')), (before.st_mtime_ns, before.st_ino, data), 'the month is untouched')
         sheet, mixed = door.read('month.sheet'), door.read('month.mixed')
         same(b''.join(rule.put_back(sheet, rule.cut(mixed, n))), data, f'{n} blocks put back by the rule')
         same(n > 30 and mixed == data, False, f'{n} blocks left as they were')
-        door.call(0, 'return', str(width), 'month.mixed', 'month.sheet', 'back', files=made | {'back': MADE}, err='')
+        door.call(0, 'return', str(width), 'month.mixed', 'month.sheet', 'back', files=files | {'back': MADE}, err='')
         same(door.read('back'), data, f'{n} blocks put back')
-        door.call(0, 'show', 'month.sheet', files=made | {'back': MADE}, err='', out=f'places {n}\nsetting ')
+        door.call(0, 'show', 'month.sheet', files=files | {'back': MADE}, err='', out=f'places {n}\nsetting ')
     door.fresh(month=b'abcdef')
-    door.call(0, 'mix', '003', 'month', files=dict.fromkeys(['month.mixed', 'month.sheet'], MADE) | {'month': 0o644}, out='month: 2 blocks')
+    door.call(0, 'mix', '003', 'month', files=made('month') | {'month': 0o644}, out='month: 2 blocks')
     orders = set()
     for _ in range(8):
         door.fresh(month=bytes(range(64)))
@@ -49,15 +51,20 @@ def names(door):
     for name in 'a month', '-month', '--', '-', '-n', 'a\nmonth', 'month\n', ' ', '*', '$(x)', 'a\\nb', "'", '"', 'é', 'x' * 249:
         door.fresh()
         door.write(name, b'abcdef')
-        made = {name: 0o644, name + '.mixed': MADE, name + '.sheet': MADE}
-        door.call(0, 'mix', '2', name, files=made, err='')
-        door.call(0, 'return', '2', name + '.mixed', name + '.sheet', '-o', files=made | {'-o': MADE}, err='')
+        files = {name: 0o644} | made(name)
+        door.call(0, 'mix', '2', name, files=files, err='')
+        files['-o'] = MADE
+        door.call(0, 'return', name + '.mixed', name + '.sheet', '-o', files=files, err='')
         same(door.read('-o'), b'abcdef', f'{name!r} put back')
-        door.call(0, 'show', name + '.sheet', files=made | {'-o': MADE}, err='', out='places 3\n')
-        door.call(0, 'chart', name, files=made | {'-o': MADE}, err='', out='25185 1 ')  # ab, low byte first
-        door.write('-c', door.call(0, 'card', name + '.sheet', files=made | {'-o': MADE}, err='').encode())
-        door.call(0, 'type', '-c', '-s', files=made | {'-o': MADE, '-c': 0o644, '-s': MADE}, err='')
-        same(door.read('-s'), door.read(name + '.sheet'), f'{name!r}: the sheet typed')
+        door.call(0, 'verify', name + '.sheet', files=files, err='')
+        door.call(0, 'show', name + '.sheet', files=files, err='', out='places 3\n')
+        door.call(0, 'chart', name, files=files, err='', out='25185 1 ')  # ab, low byte first
+        files['-c'] = MADE
+        door.call(0, 'card', name + '.sheet', '-c', files=files, err='')
+        files |= {'-s': MADE, '-s.label': MADE}
+        door.call(0, 'type', '-c', '-s', files=files, err='')
+        for kind in 'sheet', 'label':
+            same(door.read('-s' + '.label' * (kind == 'label')), door.read(f'{name}.{kind}'), f'{name!r}: the {kind} typed')
     for folder in '-d', 'a folder\n', '.', '..', '/':
         door.fresh()
         os.makedirs(door.path('in/-d'))
@@ -66,8 +73,8 @@ def names(door):
         door.write(os.path.normpath(os.path.join('in', name)), b'abcdef')
         status, _, err = door.run('mix', '2', name, cwd=door.path('in'))
         same((status, err), (0, ''), f'a month in {folder!r}')
-        same(sum(f.endswith(('month.mixed', 'month.sheet')) for f in door.files()), 2, f'a month in {folder!r}: results')
-        same(len(door.files()), 6, f'a month in {folder!r}: nothing more')
+        same(sum(f.endswith(tuple(made('month'))) for f in door.files()), 3, f'a month in {folder!r}: results')
+        same(len(door.files()), 7, f'a month in {folder!r}: nothing more')
     door.fresh()
     door.write('x' * 250, b'abcdef')
     door.call(3, 'mix', '2', 'x' * 250, files={'x' * 250: 0o644}, err='x' * 250 + '.sheet: File name too long')
@@ -78,7 +85,7 @@ def by_links(door):
         door.fresh(month=b'abcdef')
         os.symlink(door.script, door.path('one'))
         os.symlink('one', door.path('two'))
-        done = subprocess.run([door.shell, 'two', 'mix', '2', 'month'], cwd=door.at, capture_output=True)
+        done = subprocess.run([*door.shell.split(), 'two', 'mix', '2', 'month'], cwd=door.at, capture_output=True)
         same((done.returncode, done.stderr), (0, b''), 'called through two links')
     done = subprocess.run(['two', 'help'], cwd='/', capture_output=True, env={'PATH': door.at + ':' + os.environ['PATH']})
     same((done.returncode, done.stderr), (0, b''), 'called by the path')
@@ -102,8 +109,7 @@ def refusals(door):
         no(1, f'width {width}: a block has 1 to 256 bytes (question 2)', 'return', width, 'mixed', 'sheet', 'out')
     for width in '', 'x', '-1', '6x', ' 6', '+6', '0x10', '\u0663':
         no(2, f"WIDTH is the number of bytes in a block, and not '{width}'", 'mix', width, 'month')
-    for name, why in ('none', 'there is no such file'), ('folder', 'this is a folder, not a file'), ('pipe', 'this is not a plain file'), \
-            ('', 'there is no such file'):
+    for name, why in ('none', 'there is no such file'), ('folder', 'this is a folder, not a file'), ('pipe', 'this is not a plain file'):
         for args in ('mix', '1', name), ('return', '1', name, 'sheet', 'out'), ('return', '1', 'mixed', name, 'out'), ('show', name), \
                 ('settings', name), ('chart', name), ('card', name), ('type', name, 'out'):
             no(3, f'{name}: {why}', *args)
@@ -117,13 +123,18 @@ def refusals(door):
     usage_lines(no)
 
 
+RETURN = 'return MIXED SHEET OUT [LABEL]\nusage: lomuveran return WIDTH MIXED SHEET OUT [LABEL]'
+VERIFY = 'verify [FOLDER] SHEET..'
+
+
 def usage_lines(no):
     for args, line in (['mix'], 'mix WIDTH MONTH..'), (['mix', '6'], 'mix WIDTH MONTH..'), (['show'], 'show SHEET'), \
-            (['show', 'a', 'b'], 'show SHEET'), (['return', '6', 'a', 'b'], 'return WIDTH MIXED SHEET OUT'), \
-            (['return', '6', 'a', 'b', 'c', 'd'], 'return WIDTH MIXED SHEET OUT'), (['settings'], 'settings ORDER'), \
+            (['show', 'a', 'b'], 'show SHEET'), (['return', 'a', 'b'], RETURN), (['return', '6', 'a', 'b', 'c', 'd', 'e'], RETURN), \
+            (['verify'], VERIFY), (['verify', 'folder'], VERIFY), (['help', 'a', 'b'], 'help [COMMAND]'), \
+            (['settings'], 'settings ORDER'), \
             (['orders'], 'orders LENGTH'), (['orders', '1', '2'], 'orders LENGTH'), \
             (['chart'], 'chart BLOCKS'), (['chart', 'a', 'b'], 'chart BLOCKS'), \
-            (['card'], 'card SHEET'), (['type', 'a'], 'type CARD SHEET'), (['demo', 'a'], 'demo'):
+            (['card'], 'card SHEET [CARD]'), (['type', 'a'], 'type CARD SHEET'), (['demo', 'a'], 'demo'):
         no(2, 'usage: lomuveran ' + line, *args)
     no(2, "lomuveran: there is no command 'remix'; lomuveran help lists them", 'remix')
     no(2, "lomuveran: there is no command '--'; lomuveran help lists them", '--')
@@ -172,7 +183,8 @@ def listings(door):
     for length in '7', '07', '8', '10', '16', '1024', '9' * 40:
         door.call(1, 'orders', length, files={}, err=f'length {length}: only orders of at most 6 places are listed (question 17)', out='')
     for length in '', 'x', '-1', ' 3', '3x', '+3', '0x3', '3\n', '\u0663':
-        door.call(2, 'orders', length, files={}, err=f"LENGTH is the number of places of an order, and not '{length}'", out='')
+        shown = length.replace('\n', '')
+        door.call(2, 'orders', length, files={}, err=f"LENGTH is the number of places of an order, and not '{shown}'", out='')
 
 
 def charts(door):
@@ -198,11 +210,11 @@ def charts(door):
 def several(door):
     door.fresh(a=b'abcdef', b=b'abcde', c=b'abcdefgh', d=b'ab')
     at_first = door.files()
-    both = {f'{m}.{kind}': MADE for m in 'ac' for kind in ('mixed', 'sheet')}
+    both = made('a', 'c')
     said = door.call(1, 'mix', '2', 'a', 'b', 'c', files=at_first | both,
                      err='b: 5 bytes are not a whole number of 2-byte blocks (question 3)\n1 of 3 months were not mixed:\n  b')
     same([line.split(':')[0] for line in said.splitlines()[:2]], ['a', 'c'], 'a line for each month')
-    door.call(3, 'mix', '2', 'a', 'b', 'none', 'd', files=at_first | both | {'d.mixed': MADE, 'd.sheet': MADE}, err='\n'.join([
+    door.call(3, 'mix', '2', 'a', 'b', 'none', 'd', files=at_first | both | made('d'), err='\n'.join([
         'a.sheet: this exists already, and nothing is put over it', 'b: 5 bytes are not a whole number of 2-byte blocks (question 3)',
         'none: there is no such file', '3 of 4 months were not mixed:', '  a', '  b', '  none']))
     door.fresh(a=b'abcdef', b=b'abcdef')
@@ -215,6 +227,12 @@ def several(door):
 
 
 # ---- cards
+
+def no_check(count):
+    """What is said of that many lines without a check, the first of the file."""
+    lines = ', '.join(str(line + 1) for line in range(min(count, 8))) + (f' and {count - 8} more' if count > 8 else '')
+    return f'card: line{"s" * (count > 1)} {lines} {"have" if count > 1 else "has"} no check: an error of typing there may go unseen'
+
 
 def cards(door):
     door.fresh(sheet=bytes.fromhex('0109882f1d'))
@@ -234,8 +252,8 @@ def cards(door):
         forms = [card, card.lower(), '\n'.join(lines), card.replace('\n', '\r\n'), '\n\n'.join(lines), '\n'.join(lines).replace(' ', '\t')]
         for text in forms + [card.replace(' ', '  '), bare, bare.replace('\n', ' ')]:
             door.fresh(card=text.encode())
-            unchecked = 'card: there are lines without a check: an error of typing in them may go unseen' if '=' not in text else ''
-            door.call(0, 'type', 'card', 'sheet', files={'card': 0o644, 'sheet': MADE}, err=unchecked,
+            said = no_check(text.count('\n') + 1) if '=' not in text else ''
+            door.call(0, 'type', 'card', 'sheet', files={'card': 0o644, 'sheet': MADE}, err=said,
                       out=f'sheet: the sheet of {n} blocks\n')
             same(door.read('sheet'), sheet, f'a sheet of {n} typed')
 
@@ -290,7 +308,7 @@ def typing_errors(door):
 def demo(door):
     door.fresh()
     said = door.call(0, 'demo', files={}, env=os.environ | {'TMPDIR': door.at})
-    for text in 'month.back is month, to the byte.', '$ lomuveran card month.sheet', '(status 1)':
+    for text in 'month.back is month, to the byte.', '$ lomuveran card month.sheet', '$ lomuveran verify month.sheet', '(status 1)':
         same(text in said, True, f'the demonstration says: {text}')
     same(said.count('\n12 4 -261 96 -345 -87 3\n'), 2, 'the demonstration has the chart at home and mixed')
     help_ = door.call(0, 'help', files={}, err='')
@@ -300,12 +318,12 @@ def demo(door):
 def main():
     root, shells = sys.argv[1], sys.argv[2:]
     tried = [whole_job, names, by_links, refusals, damaged_sheets, orders, listings, charts, several, cards, typing_errors, demo,
-             *door_trouble.TRIED]
+             *door_labels.TRIED, *door_guard.TRIED, *door_trouble.TRIED]
     for shell in shells:
         with tempfile.TemporaryDirectory() as scratch:
             os.chmod(scratch, 0o755)
             door = Door(root, scratch, shell)
-            for case in tried:
+            for case in tried + door_guard.WITH_STAND_INS * (not door.own_tools):
                 case(door)
     left_out = ''.join(f'; not tried here: {what}' for what in dict.fromkeys(harness.left_out))
     print(f'compared {harness.compared} results of the script under {" and ".join(shells)}, {harness.wrong} wrong{left_out}')

@@ -1,4 +1,5 @@
 """What the tests of the script `lomuveran` share: a copy of it to call, and the comparing of what it left."""
+import contextlib
 import os
 import random
 import shutil
@@ -11,6 +12,11 @@ MADE = 0o600  # the permissions of what the script makes
 rng = random.Random(14)
 compared = wrong = 0
 left_out = []  # what cannot be tried on this machine
+
+
+def made(*months):
+    """What mixing makes of each month."""
+    return {f'{month}.{kind}': MADE for month in months for kind in ('mixed', 'sheet', 'label')}
 
 
 def same(is_, must, what):
@@ -27,6 +33,7 @@ class Door:
 
     def __init__(self, root, scratch, shell):
         self.shell, self.home, self.at = shell, os.path.join(scratch, 'home'), os.path.join(scratch, 'here')
+        self.own_tools = shell.startswith('busybox')  # it has its own, and takes no stand-in from the path
         for name in 'lomuveran', 'examples', 'target/bin':
             source, copy = os.path.join(root, name), os.path.join(self.home, name)
             os.makedirs(os.path.dirname(copy), exist_ok=True)
@@ -55,7 +62,7 @@ class Door:
 
     def start(self, *args, **options):
         options = {'stdin': subprocess.DEVNULL, 'stdout': subprocess.PIPE, 'stderr': subprocess.PIPE, 'cwd': self.at} | options
-        return subprocess.Popen([self.shell, self.script, *args], **options)
+        return subprocess.Popen([*self.shell.split(), self.script, *args], **options)
 
     def run(self, *args, **options):
         process = self.start(*args, **options)
@@ -95,6 +102,21 @@ class Door:
     def put_back(self, program):
         real = os.path.join(self.bin, program)
         os.rename(real + '.real', real)
+
+    @contextlib.contextmanager
+    def stand_in(self, **tools):
+        """The environment in which each of these tools of the system is a script; the tool itself is REAL."""
+        folder = os.path.join(self.home, 'tools')
+        os.mkdir(folder)
+        try:
+            for tool, text in tools.items():
+                path = os.path.join(folder, tool)
+                with open(path, 'w') as f:
+                    f.write('#!/bin/sh\n' + text.replace('REAL', f"'{shutil.which(tool)}'"))
+                os.chmod(path, 0o755)
+            yield os.environ | {'PATH': f'{folder}:{os.environ["PATH"]}'}
+        finally:
+            shutil.rmtree(folder)
 
 
 def sheet_of(n, damage=lambda s: s):

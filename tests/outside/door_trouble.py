@@ -7,7 +7,7 @@ import subprocess
 import time
 
 import rule
-from door import MADE, left_out, rng, same, sheet_of
+from door import MADE, left_out, made, rng, same, sheet_of
 
 NOBODY = 65534
 
@@ -16,7 +16,7 @@ NOBODY = 65534
 
 def existing(door):
     """A result's name that is taken, by whatever: it stays as it is."""
-    for name in 'month.mixed', 'month.sheet':
+    for name in made('month'):
         for kind in 'file', 'folder', 'link to nothing', 'link to a folder':
             door.fresh(month=b'abcdef')
             if kind == 'file':
@@ -26,9 +26,10 @@ def existing(door):
             else:
                 os.symlink('nothing' if kind == 'link to nothing' else '.', door.path(name))
             at_first = door.files()
-            door.call(3, 'mix', '2', 'month', files=at_first, err=f'{name}: this exists already, and nothing is put over it', out='')
+            words = None if (name, kind) == ('month.sheet', 'file') else f'{name}: this exists already, and nothing is put over it'
+            door.call(3, 'mix', '2', 'month', files=at_first, err=words, out='')
             same(door.read(name) if kind == 'file' else b'kept', b'kept', f'{name}, {kind}')
-    for name in 'month.mixed', 'month.sheet':  # one that appears while the month is mixed
+    for name in made('month'):  # one that appears while the month is mixed
         for make in ': >', 'mkdir ', 'ln -s . ', 'ln -s nothing ':
             door.put_aside('unmix', f"{make}'{door.path(name)}'; exec REAL \"$@\"\n")
             door.fresh(month=b'abcdef')
@@ -46,67 +47,64 @@ def at_once(door):
         for process in running:
             process.communicate()
         same(sorted(p.returncode for p in running), [0, 3, 3, 3], 'four at once on one month')
-        same(door.files(), {'month': 0o644, 'month.mixed': MADE, 'month.sheet': MADE}, 'four at once: files')
+        same(door.files(), {'month': 0o644} | made('month'), 'four at once: files')
         same(b''.join(rule.put_back(door.read('month.sheet'), rule.cut(door.read('month.mixed'), 100))), data, 'four at once: one pair')
-        running = [door.start('return', '6', 'month.mixed', 'month.sheet', 'out') for _ in range(3)]
+        running = [door.start('return', 'month.mixed', 'month.sheet', 'out') for _ in range(3)]
         for process in running:
             process.communicate()
         same((sorted(p.returncode for p in running), door.read('out')), ([0, 3, 3], data), 'three returns at once')
-        same(len(door.files()), 4, 'three returns at once: files')
+        same(len(door.files()), 5, 'three returns at once: files')
 
 
 # ---- signals
 
-def interrupted(door, process, number, to_group, what, made):
+def interrupted(door, process, number, to_group, what):
     """After a signal: all of it, and told, or nothing."""
     try:
         (os.killpg if to_group else os.kill)(process.pid, number)
     except ProcessLookupError:
         pass
     told = process.communicate()[0]
-    must = {'month': 0o644} | (made if told or process.returncode == 0 else {})
+    must = {'month': 0o644} | (made('month') if told or process.returncode == 0 else {})
     same((process.returncode in (0, -number, 3), door.files()), (True, must), f'{door.shell} {what}, status {process.returncode}, {told}')
     return process.returncode
 
 
 def signals(door):
-    made = {'month.mixed': MADE, 'month.sheet': MADE}
     numbers = [signal.SIGINT, signal.SIGTERM, signal.SIGHUP, signal.SIGQUIT]
     for number in numbers:  # in the middle: a program takes its time
         for program in 'draw', 'mix', 'unmix':
             for to_group in True, False:
-                end = interrupted_in(door, program, number, to_group, made)
-                same(end, 3 if number == signal.SIGQUIT and door.shell == 'bash' else -number, 'ended by the signal')  # bash cannot be quit
-    for tool in 'link', 'sync', 'rm':  # while the results get their names, and after it
-        interrupted_at(door, tool, rng.choice(numbers), made)
+                end = interrupted_in(door, program, number, to_group)
+                quit_ = number == signal.SIGQUIT and door.shell != 'dash'  # bash and busybox cannot be quit
+                same(end, 3 if quit_ else -number, 'ended by the signal')
+    for tool in () if door.own_tools else ('link', 'sync', 'rm'):  # while the results get their names, and after it
+        interrupted_at(door, tool, rng.choice(numbers))
     for _ in range(60):
         number = rng.choice(numbers)
         door.fresh(month=rng.randbytes(6000))
         process = door.start('mix', '6', 'month', start_new_session=True)
         time.sleep(rng.random() * 0.08)
-        interrupted(door, process, number, rng.random() < 0.5, f'signal {number} at random', made)
+        interrupted(door, process, number, rng.random() < 0.5, f'signal {number} at random')
 
 
-def interrupted_at(door, tool, number, made):
+def interrupted_at(door, tool, number):
     """A signal while a tool of the system, which takes its time, is at work: before the month is told of nothing stays, then all does."""
-    tools, reached = door.home + '/tools', door.home + '/reached'
-    os.mkdir(tools)
-    with open(f'{tools}/{tool}', 'w') as f:
-        f.write(f"#!/bin/sh\n'{shutil.which(tool)}' \"$@\"; status=$?; cd . >'{reached}'; sleep 0.2; exit $status\n")
-    os.chmod(f'{tools}/{tool}', 0o755)
-    door.fresh(month=b'abcdef')
-    process = door.start('mix', '2', 'month', env=os.environ | {'PATH': f'{tools}:{os.environ["PATH"]}'})
-    while not os.path.exists(reached) and process.poll() is None:
-        time.sleep(0.01)
-    same(set(door.files()) >= {'month', 'month.sheet'}, True, f'{tool} was reached')
-    process.send_signal(number)
-    told = process.communicate()[0]
-    same((bool(told), door.files()), (tool == 'rm', {'month': 0o644} | (made if tool == 'rm' else {})), f'signal {number} in {tool}')
-    shutil.rmtree(tools)
+    reached = door.home + '/reached'
+    with door.stand_in(**{tool: f"REAL \"$@\"; status=$?; cd . >'{reached}'; sleep 0.2; exit $status\n"}) as env:
+        door.fresh(month=b'abcdef')
+        process = door.start('mix', '2', 'month', env=env)
+        while not os.path.exists(reached) and process.poll() is None:
+            time.sleep(0.01)
+        same(set(door.files()) >= {'month', 'month.sheet'}, True, f'{tool} was reached')
+        process.send_signal(number)
+        told = process.communicate()[0]
+    must = {'month': 0o644} | (made('month') if tool == 'rm' else {})
+    same((bool(told), door.files()), (tool == 'rm', must), f'signal {number} in {tool}')
     os.remove(reached)
 
 
-def interrupted_in(door, program, number, to_group, made):
+def interrupted_in(door, program, number, to_group):
     """A signal while a program, which takes its time, is at work."""
     reached = door.home + '/reached'
     door.put_aside(program, f"cd . >'{reached}'; sleep 0.2; exec REAL \"$@\"\n")
@@ -115,7 +113,7 @@ def interrupted_in(door, program, number, to_group, made):
     while not os.path.exists(reached) and process.poll() is None:
         time.sleep(0.01)
     same(os.path.exists(reached), True, f'{program} was reached')
-    end = interrupted(door, process, number, to_group, f'signal {number} in {program}', made)
+    end = interrupted(door, process, number, to_group, f'signal {number} in {program}')
     door.put_back(program)
     if os.path.exists(reached):
         os.remove(reached)
@@ -154,14 +152,14 @@ def full_disk(door):
     try:
         data = rng.randbytes(16384)
         ends = []
-        for room in 0, 1, 2, 3, 4, 5, 6, 7:
+        for room in range(13):
             for name in os.listdir(small):
                 os.remove(os.path.join(small, name))
             door.write('small/month', data)
             door.write('small/fill', b'x' * (4096 * (16 - 4 - room)))
             status, _, err = door.run('mix', '16', 'small/month')
             ends.append(status)
-            must = {'small/', 'small/month', 'small/fill'} | ({'small/month.mixed', 'small/month.sheet'} if status == 0 else set())
+            must = {'small/', 'small/month', 'small/fill'} | (set(made('small/month')) if status == 0 else set())
             same((set(door.files()), door.read('small/month') == data), (must, True), f'room for {room} pages, status {status}')
             same(status == 0 or 'No space left on device' in err, True, f'room for {room} pages: {err}')
         same((sorted(set(ends)), ends[0], ends[-1]), ([0, 3], 3, 0), f'full disk: {ends}')
@@ -180,10 +178,10 @@ def folders_of_others(door):
     at_first = door.files()
     for args, name in (('mix', '2', 'month'), 'month'), (('return', '2', 'month', 'sheet', 'out'), 'out'):
         door.call(3, *args, files=at_first, err=f'{name}: no file can be made in its folder: Permission denied', **nobody)
-    os.chmod(door.at, 0o777)
+    os.chmod(door.at, 0o1777)
     for args in ('mix', '2', 'closed'), ('chart', 'closed'):
         door.call(3, *args, files=at_first, err='closed: it cannot be read: Permission denied', **nobody)
-    door.call(0, 'mix', '2', 'month', files=at_first | {'month.mixed': MADE, 'month.sheet': MADE}, err='', umask=0, **nobody)
+    door.call(0, 'mix', '2', 'month', files=at_first | made('month'), err='', umask=0, **nobody)
 
 
 def programs_that_fail(door):
