@@ -4,17 +4,15 @@
 //!     cargo run --example bought -- mix WIDTH BLOCKS MIXED DIGITS
 //!     cargo run --example bought -- return WIDTH MIXED DIGITS BLOCKS
 //!     cargo run --example bought -- sheet PLACES DIGITS SHEET
+//!
+//! As in the example `archive`, the work is done backwards and compared first, nothing that exists is written over, and what is made can be
+//! read by its owner alone.
 
-use lomuveran::{NeighbourSetting, Permutation};
-use std::{env, error::Error, fs, fs::File, io::Read};
+mod common;
 
-/// An order of n places, drawn from the system's random numbers, with 64 words to spare: some may be skipped.
-fn drawn(n: usize) -> Result<Permutation, Box<dyn Error>> {
-    let mut bytes = vec![0; 4 * (n + 64)];
-    File::open("/dev/urandom")?.read_exact(&mut bytes)?;
-    let words: Vec<u32> = bytes.chunks_exact(4).map(|word| u32::from_le_bytes([word[0], word[1], word[2], word[3]])).collect();
-    Ok(Permutation::shuffle(n, &words)?)
-}
+use common::{create, drawn};
+use lomuveran::NeighbourSetting;
+use std::{env, error::Error, fs};
 
 /// What is no digit 0 or 1 becomes a byte that the library refuses.
 fn setting(places: usize, digits: &str) -> Result<NeighbourSetting, Box<dyn Error>> {
@@ -23,21 +21,33 @@ fn setting(places: usize, digits: &str) -> Result<NeighbourSetting, Box<dyn Erro
 }
 
 fn mix(width: usize, blocks: &str, mixed: &str, digits: &str) -> Result<(), Box<dyn Error>> {
-    let mut bytes = fs::read(blocks)?;
-    let setting = NeighbourSetting::control_bits(&drawn(bytes.len().checked_div(width).unwrap_or(0))?);
+    let month = fs::read(blocks)?;
+    let setting = NeighbourSetting::control_bits(&drawn(month.len().checked_div(width).unwrap_or(0))?);
+    let mut bytes = month.clone();
     setting.apply(width, &mut bytes)?;
-    fs::write(digits, setting.bits().iter().map(|bit| b'0' + bit).collect::<Vec<u8>>())?;
-    Ok(fs::write(mixed, bytes)?)
+    let mut back = bytes.clone();
+    setting.apply_inverse(width, &mut back)?;
+    if back != month {
+        return Err(format!("{blocks}: put back, the mixed blocks are not these").into());
+    }
+    create(&[(digits, &setting.bits().iter().map(|bit| b'0' + bit).collect::<Vec<u8>>()), (mixed, &bytes)])
 }
 
 fn put_back(width: usize, mixed: &str, digits: &str, blocks: &str) -> Result<(), Box<dyn Error>> {
-    let mut bytes = fs::read(mixed)?;
-    setting(bytes.len().checked_div(width).unwrap_or(0), digits)?.apply_inverse(width, &mut bytes)?;
-    Ok(fs::write(blocks, bytes)?)
+    let lent = fs::read(mixed)?;
+    let setting = setting(lent.len().checked_div(width).unwrap_or(0), digits)?;
+    let mut bytes = lent.clone();
+    setting.apply_inverse(width, &mut bytes)?;
+    let mut again = bytes.clone();
+    setting.apply(width, &mut again)?;
+    if again != lent {
+        return Err(format!("{mixed}: mixed again, the blocks are not these").into());
+    }
+    create(&[(blocks, &bytes)])
 }
 
 fn sheet(places: usize, digits: &str, sheet: &str) -> Result<(), Box<dyn Error>> {
-    Ok(fs::write(sheet, setting(places, digits)?.to_paper().write_sheet())?)
+    create(&[(sheet, &setting(places, digits)?.to_paper().write_sheet())])
 }
 
 fn main() -> Result<(), Box<dyn Error>> {

@@ -2,7 +2,7 @@
 """The script `lomuveran`, under each shell that is named: what it says, its status, and after each call exactly the files that should be
 there, with their permissions. What it mixed is put back by rule.py.
 
-  check_front_door.py ROOT SHELL..    (the project's root, with its programs built; dash, bash)
+  check_front_door.py ROOT SHELL..    (the project's root, with its programs built; dash, bash, 'busybox sh')
 """
 import os
 import pty

@@ -4,6 +4,7 @@ each wiring, and against the library's own reading of damaged sheets. Settings o
 
   check_rule.py ARCHIVE BOUGHT    (the Rust package's examples, compiled)
 """
+import hashlib
 import os
 import pathlib
 import random
@@ -54,6 +55,13 @@ class Archive:
             return f.read()
 
     def run(self, word, width, *names):
+        """One call, which makes new files, in the place of what is there; `once` leaves that."""
+        for name in names[1 if word != 'return' else 2:]:
+            if os.path.exists(self.path[name]):
+                os.remove(self.path[name])
+        return self.once(word, width, *names)
+
+    def once(self, word, width, *names):
         done = subprocess.run([self.program, word, str(width), *(self.path[name] for name in names)], stderr=subprocess.PIPE)
         return done.returncode == 0
 
@@ -84,6 +92,8 @@ def page():
         same(re.findall(r'\| (\d+) \| (\d+) and (\d+) \| ([a-i ]+) \|', part), must, 'the exchanges on the page')
         same(blocks, list('abcdefghi'), 'the blocks at home')
         same(re.search(r'from the last: ([\d, ]+)\.', part)[1], ', '.join(i for i, *_ in must), 'the bits that are 1')
+    for key, data in ('month', b'abcdefghi'), ('mixed', b'hfbcieadg'), ('sheet', bytes.fromhex('01 09 88 2f 1d')):
+        same(f'    {key}-sha256 {hashlib.sha256(data).hexdigest()}\n' in text, True, f'the digest of the {key} on the page')
 
 
 def mixed_by_the_library(archive, rng):
@@ -98,6 +108,23 @@ def mixed_by_the_library(archive, rng):
             same(b''.join(rule.mix(sheet, rule.cut(data, n))), mixed, f'{n} blocks of {width} mixed by the rule')
             if n > 30 and width > 1:
                 same(mixed == data, False, f'{n} blocks left as they were')
+
+
+def nothing_replaced(archive, sheet):
+    """What exists is left as it is, and then nothing is made; what is made can be read by its owner alone."""
+    archive.write('blocks', b'abcdefghi')
+    for made in (('mixed', sheet), ('back',)):
+        call = ('mix', 1, 'blocks', 'mixed', sheet) if len(made) == 2 else ('return', 1, 'mixed', sheet, 'back')
+        same(archive.run(*call), True, f'{call[0]} into new files')
+        for name in made:
+            same(os.stat(archive.path[name]).st_mode & 0o777, 0o600, f'{call[0]}: the permissions of {name}')
+            archive.write(name, b'kept')
+            for other in set(made) - {name}:
+                os.remove(archive.path[other])
+            same(archive.once(*call), False, f'{call[0]} over {name}')
+            same((archive.read(name), [os.path.exists(archive.path[n]) for n in set(made) - {name}]), (b'kept', [False] * (len(made) - 1)),
+                 f'{call[0]} over {name}: files')
+            archive.run('mix', 1, 'blocks', 'mixed', sheet)
 
 
 def damaged_for_both(archive, rng):
@@ -182,9 +209,9 @@ def bought_refused(archive):
     archive.write('mixed', b'abc')
     for digits, must in (('110', True), ('120', False), ('11', False), ('1100', False), ('11\n', False)):
         archive.write('digits', digits.encode())
-        archive.write('back', b'')
         same(archive.run('return', 1, 'mixed', 'digits', 'back'), must, f'return by the digits {digits!r}')
-        same(archive.read('back'), b'bca' if must else b'', f'blocks returned by the digits {digits!r}')
+        same(os.path.exists(archive.path['back']), must, f'blocks returned by the digits {digits!r}')
+        same(archive.read('back') if must else b'bca', b'bca', f'blocks returned by the digits {digits!r}')
 
 
 def main():
@@ -195,8 +222,10 @@ def main():
     with tempfile.TemporaryDirectory() as folder:
         archive = Archive(sys.argv[1], folder)
         mixed_by_the_library(archive, rng)
+        nothing_replaced(archive, 'sheet')
         damaged_for_both(archive, rng)
         bought = Archive(sys.argv[2], folder)
+        nothing_replaced(bought, 'digits')
         bought_blocks(bought, rng)
         bought_refused(bought)
     print(f'compared {compared} results with the reader in Python, {wrong} wrong')
