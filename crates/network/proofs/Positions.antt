@@ -3,7 +3,7 @@
 -- Assumes nothing.
 use mathlib.Core.Bool.{false, true}
 use mathlib.Core.Path.{_≡_, refl, sym, ap, _∙_}
-use mathlib.Core.List.{List, [], _∷_, _++_, reverse, reverse-cons}
+use mathlib.Core.List.{List, [], _∷_, _++_, map, reverse, reverse-cons}
 use Prim.Native.Nat.{ℕ, zero, suc, _+_, _-_, _<_}
 use native.Mathlib.Nat.{add-zero, zero-add}
 use native.Mathlib.Omega.{arith}
@@ -116,6 +116,13 @@ module _ {A : Type 0} (d : A) where
       rw now
       (by-number bits bit (suc e) es _
       (λ i l. h (suc i) (omega arith) ∙ ap bit (let f : e + suc i ≡ suc e + i = omega arith in f)))
+
+  -- it reads no fourth word: others in their place change nothing
+  pub fourth-unread : (bit : ℕ → ℕ) (e : ℕ) (other : Entry → ℕ) (es : List Entry) (xs : List A)
+      → runByNumber d bit e (map (λ (x : Entry). entry (x .kind) (x .first) (x .second) (other x)) es) xs ≡ runByNumber d bit e es xs
+  unfolding runByNumber
+  fourth-unread bit e other [] xs = refl
+  fourth-unread bit e other (x ∷ es) xs = fourth-unread bit (suc e) other es _
 
   -- mixing: entry e uses bit e
   pub apply-by-number : (w : Wiring) (n : ℕ) (bits : List ℕ) (xs : List A)

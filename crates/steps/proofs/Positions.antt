@@ -3,7 +3,7 @@
 -- Assumes nothing.
 use mathlib.Core.Path.{_≡_, refl, sym, ap, _∙_}
 use mathlib.Core.Bool.{Bool, true, false, cond}
-use mathlib.Core.List.{List, [], _∷_, _++_, Memᴰ·append-left, Memᴰ·append-right, List·Memᴰ·head, List·Memᴰ·tail}
+use mathlib.Core.List.{List, [], _∷_, _++_, map, Memᴰ·append-left, Memᴰ·append-right, List·Memᴰ·head, List·Memᴰ·tail}
 use Prim.Native.Nat.{ℕ, zero, suc, _+_, _-_, _<_}
 use native.Mathlib.Omega.{arith}
 use lib.Dec.{eqb, ltb}
@@ -89,6 +89,21 @@ module _ (w : Wiring) (L : Lawful w) where
   set-position n e h = each-at (each-set n) e h
 
   -- ---- 01's rule
+
+  -- it reads no fourth word: others in their place change nothing
+  same-looked : (Ns : List Subnetwork) (e : Entry) (b : ℕ) (x : State)
+      → runLooked w Ns (entry (e .kind) (e .first) (e .second) b) x ≡ runLooked w Ns e x
+  unfolding runLooked
+  same-looked [] e b x = refl
+  same-looked (N ∷ Ns) e b x = ap (cond (names e N) (step w N (e .kind) x)) (same-looked Ns e b x)
+
+  pub fourth-unread : (Ns : List Subnetwork) (other : Entry → ℕ) (es : List Entry) (x : State)
+      → runAllLooked w Ns (map (λ (e : Entry). entry (e .kind) (e .first) (e .second) (other e)) es) x ≡ runAllLooked w Ns es x
+  unfolding runAllLooked
+  fourth-unread Ns other [] x = refl
+  fourth-unread Ns other (e ∷ es) x =
+      fourth-unread Ns other es (runLooked w Ns (entry (e .kind) (e .first) (e .second) (other e)) x)
+      ∙ ap (runAllLooked w Ns es) (same-looked Ns e (other e) x)
 
   looked : (Ns : List Subnetwork) (e : Entry) (x : State) → ((M : Subnetwork) → OneOf Ns M → names e M ≡ true → e .bit ≡ M .bit)
       → runEntry w Ns e x ≡ runLooked w Ns e x
