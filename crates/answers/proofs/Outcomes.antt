@@ -8,7 +8,7 @@ use native.Mathlib.Omega.{arith}
 use lib.ListN.{length}
 use Rattle.answers.specs.declared.Answer.{Answer}
 use Rattle.answers.specs.Answers.{refusal, accepted}
-use Rattle.answers.specs.Questions.{Question, ask, Verdict, allYes, noAt, firstNo}
+use Rattle.answers.specs.Questions.{Question, ask, Verdict, allYes, noAt, firstNo, Numbered}
 use Rattle.answers.specs.Buffers.{overlay}
 use Rattle.answers.specs.Outcomes.{answerOf, bufferOf, Outcome, outcome, settled, Logged, logged, settledLogged}
 
@@ -29,12 +29,7 @@ module _ (v : Verdict) (count : ℕ) (words b entries l : List ℕ) {a : Answer}
       → logged a b′ l′ ≡ settledLogged v count words b entries l
   logged-accepted e r k m = rw (e, r, k, m)
 
--- each question has a number above 0, so that a refusal cannot be taken for success
-abbrev pub Numbered : List Question → Type 0
-Numbered [] = Unit {0}
-Numbered (q ∷ qs) = (0 < q .number) × Numbered qs
-
--- .. of two sequences
+-- questions that are numbered, of two sequences
 pub numbered-both : (qs rs : List Question) → Numbered qs → Numbered rs → Numbered (qs ++ rs)
 numbered-both [] rs h g = g
 numbered-both (q ∷ qs) rs h g = (h .0, numbered-both qs rs (h .1) g)

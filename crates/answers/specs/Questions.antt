@@ -3,7 +3,7 @@
 use mathlib.Core.Path.{_≡_}
 use mathlib.Core.Bool.{Bool, true, false}
 use mathlib.Core.List.{List, [], _∷_}
-use Prim.Native.Nat.{ℕ, zero, suc}
+use Prim.Native.Nat.{ℕ, zero, suc, _<_}
 use lib.Dec.{eqb}
 
 -- a question: its number, the place that a no names, and what it gets (true: a yes)
@@ -42,3 +42,8 @@ firstNo (q ∷ qs) = elim (q .yes) [ true ↦ firstNo qs | false ↦ noAt (q .nu
 abbrev pub EachYes : List Question → Type 0
 EachYes [] = Unit {0}
 EachYes (q ∷ qs) = (q .yes ≡ true) × EachYes qs
+
+-- each question has a number above 0, so that a refusal cannot be taken for success
+abbrev pub Numbered : List Question → Type 0
+Numbered [] = Unit {0}
+Numbered (q ∷ qs) = (0 < q .number) × Numbered qs

@@ -10,10 +10,10 @@ use lib.Dec.{leb, eqb}
 use lib.ListN.{length}
 use Rattle.answers.specs.declared.Answer.{Answer}
 use Rattle.answers.specs.Answers.{refusal, accepted}
-use Rattle.answers.specs.Questions.{Verdict, allYes, noAt, firstNo, firstBad, askEach}
+use Rattle.answers.specs.Questions.{Verdict, allYes, noAt, firstNo, firstBad, askEach, Numbered}
 use Rattle.answers.specs.Outcomes.{answerOf}
 use Rattle.answers.proofs.Questions.{each-yes}
-use Rattle.answers.proofs.Outcomes.{Numbered, accepted-when}
+use Rattle.answers.proofs.Outcomes.{accepted-when}
 use Rattle.bits.specs.Bits.{isBit, Bits}
 use Rattle.bits.proofs.Bytes.{bits-all, all-bits}
 use Rattle.counts.specs.Counts.{W}

@@ -22,31 +22,12 @@ use Rattle.network.proofs.Where.{goesTo, across, across-below, through, inHalve
 use Rattle.network.proofs.Order.{order-at}
 use Rattle.permutation.specs.Permutations.{IsPermutation}
 use Rattle.canonical.specs.Rule.{held, half, Apart, LowestStraight, Finished, orderOfHalf, Canonical}
+use Rattle.canonical.specs.Obeys.{Obeys}
 use Rattle.canonical.proofs.Sides.{bitAt, bitAt-past, turn}
 use Rattle.canonical.proofs.Held.{entry-in}
 use Rattle.canonical.proofs.Halves.{feeder, feeder-enters, half-at, imagined, top-permutation, bottom-permutation}
 use Rattle.canonical.proofs.Only.{output-bits}
 use Rattle.canonical.proofs.Through.{entered-lies, leavesAt, leaves, through-leaves}
-
--- the bits of a network in their sequence, with the house rule for its input bits; the halves obey it in their own orders
-pub record ObeysWith (w : Wiring) (m : ℕ) (Top Bottom : List ℕ → List ℕ → Type 0) (o bits : List ℕ) : Type 0 where
-  pub inputBits : List ℕ
-  pub topBits : List ℕ
-  pub bottomBits : List ℕ
-  pub outputBits : List ℕ
-  pub in-sequence : bits ≡ inputBits ++ (topBits ++ (bottomBits ++ outputBits))
-  pub input-count : length inputBits ≡ up m - 1
-  pub output-count : length outputBits ≡ down m
-  pub input-bits : Bits inputBits
-  pub output-bits : Bits outputBits
-  pub lowest-straight : LowestStraight w (up m) o inputBits
-  pub in-top : Top (orderOfHalf w (up m) o inputBits false (up m)) topBits
-  pub in-bottom : Bottom (orderOfHalf w (up m) o inputBits true (down m)) bottomBits
-
--- the house rule in every network
-unfoldable pub Obeys : Wiring → Network → List ℕ → List ℕ → Type 0
-Obeys w wires o bits = bits ≡ []
-Obeys w (split m top bottom) o bits = ObeysWith w m (Obeys w top) (Obeys w bottom) o bits
 
 obeys-count : (w : Wiring) (net : Network) (o bits : List ℕ) → Obeys w net o bits → length bits ≡ switchCount net
 unfolding Obeys switchCount

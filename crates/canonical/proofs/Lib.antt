@@ -15,5 +15,4 @@ pub mod Carry
 pub mod Carrying
 pub mod Orders
 pub mod Steps
-pub mod Paper
 pub mod Cases

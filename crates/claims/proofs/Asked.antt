@@ -7,9 +7,8 @@ use Prim.Native.Nat.{ℕ, _*_, _≤_}
 use native.Mathlib.Omega.{arith}
 use lib.ListN.{length}
 use borrow.Author.Tests.{leb-true, eqb-true, le-leb, eq-eqb}
-use Rattle.answers.specs.Questions.{allYes, firstNo}
+use Rattle.answers.specs.Questions.{allYes, firstNo, Numbered}
 use Rattle.answers.proofs.Questions.{each-yes, yes-each}
-use Rattle.answers.proofs.Outcomes.{Numbered}
 use Rattle.counts.specs.Counts.{W, E}
 use Rattle.network.specs.Log.{entryWords}
 use Rattle.permutation.specs.Permutations.{firstBadEntry, IsPermutation}

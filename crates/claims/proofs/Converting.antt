@@ -8,10 +8,10 @@ use borrow.Author.Tests.{leb-true, eqb-true}
 use lib.ListN.{length}
 use Rattle.answers.specs.declared.Answer.{Answer}
 use Rattle.answers.specs.Answers.{accepted}
-use Rattle.answers.specs.Questions.{Verdict, allYes, firstNo, firstBad}
+use Rattle.answers.specs.Questions.{Verdict, allYes, firstNo, firstBad, Numbered}
 use Rattle.answers.specs.Outcomes.{Outcome, outcome}
 use Rattle.answers.proofs.Questions.{each-yes}
-use Rattle.answers.proofs.Outcomes.{Numbered, accepted-when}
+use Rattle.answers.proofs.Outcomes.{accepted-when}
 use Rattle.bits.specs.Bits.{isBit}
 use Rattle.bits.proofs.Bytes.{bits-all, all-bits}
 use Rattle.counts.specs.Counts.{W}

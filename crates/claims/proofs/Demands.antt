@@ -5,24 +5,29 @@ use mathlib.Core.List.{List, [], _∷_}
 use Prim.Native.Nat.{ℕ, _*_}
 use lib.ListN.{length}
 use Rattle.answers.specs.declared.Answer.{Answer}
-use Rattle.answers.specs.Questions.{Verdict, noAt, allYes, firstNo}
+use Rattle.answers.specs.Questions.{Verdict, noAt, allYes, firstNo, Numbered}
 use Rattle.answers.specs.Buffers.{overlay}
 use Rattle.answers.specs.Outcomes.{Logged, settledLogged}
-use Rattle.answers.proofs.Outcomes.{Numbered, accepted-when, logged-refused}
+use Rattle.answers.proofs.Outcomes.{accepted-when, logged-refused}
 use Rattle.counts.specs.Counts.{W, E}
 use Rattle.network.specs.Wiring.{Wiring, Lawful, paper}
 use Rattle.network.specs.Blocks.{cut, bytesOf, moved, movedBack}
 use Rattle.network.specs.Log.{words, entries, run}
+use Rattle.network.specs.ByNumber.{runByNumber}
 use Rattle.network.proofs.Shape.{entries-words, length-applyEntries, length-inverseEntries}
 use Rattle.network.proofs.Paper.{paper-lawful}
 use Rattle.network.proofs.Blocks.{length-cut}
 use Rattle.network.proofs.Run.{run-apply}
 use Rattle.network.proofs.RunBack.{run-inverse}
+use Rattle.network.proofs.Positions.{apply-by-number, inverse-by-number}
 use Rattle.network.proofs.Moved.{length-moved, length-movedBack}
 use Rattle.canonical.proofs.Only.{canonical-length}
 use Rattle.steps.specs.Sequence.{setEntries}
-use Rattle.steps.specs.Run.{settingOf}
+use Rattle.steps.specs.State.{State, start}
+use Rattle.steps.specs.Run.{runSet, settingOf}
+use Rattle.steps.specs.ByLookup.{runByLookup}
 use Rattle.steps.proofs.Lengths.{length-setEntries}
+use Rattle.steps.proofs.Positions.{set-by-lookup}
 use Rattle.steps_canonical.proofs.Whole.{setting-canonical}
 use Rattle.apply_questions.specs.Questions.{applyQuestions}
 use Rattle.apply_questions.proofs.Asked.{passes, numbered}
@@ -37,8 +42,8 @@ use Rattle.ranks_order.proofs.OrderAt.{length-orderAt, order-permutation}
 use Rattle.ranks.specs.Calls.{rankedCall}
 use Rattle.ranks.proofs.Asked.{rank-asked, rank-numbered}
 use Rattle.claims.specs.Calls.{Direction, mixing, returning, Call, set, move, mix, return, rank, moving}
-use Rattle.claims.specs.Calls.{entriesDue, countDue, moveCall, movedBy, described, replay, outcomeOf, Accepted}
-use Rattle.claims.specs.Calls.{due, dueEntries, written}
+use Rattle.claims.specs.Calls.{entriesDue, countDue, moveCall, movedBy, bitOf, described, replay, replayByRule}
+use Rattle.claims.specs.Calls.{outcomeOf, Accepted, countOf, due, dueEntries, written}
 use Rattle.claims.specs.Demands.{Demand1, Logs, Demand3}
 use Rattle.claims.proofs.Asked.{set-asked, set-numbered}
 use Rattle.claims.proofs.Settled.{Left, left}
@@ -60,8 +65,14 @@ record Laws (c : Call) : Type 0 where
   all-numbered : Numbered (described c .questions)
   counted : length (dueEntries c) ≡ due c
   runs : replay c (dueEntries c) ≡ resultOf c
+  runs-by-rule : replayByRule c (dueEntries c) ≡ resultOf c
   right : asked c ≡ allYes → described c .Right (resultOf c)
   fills : asked c ≡ allYes → length (resultOf c) ≡ length (described c .buffer)
+
+-- the setter's entries run by 01's rule on an order of m places
+set-by-rule : {w : Wiring} → Lawful w → (n m : ℕ) (x : State) → m ≡ n
+    → runByLookup w m (setEntries w n) x ≡ runSet w m (setEntries w n) x
+set-by-rule {w} L n m x long = rw long (sym (set-by-lookup w L n x))
 
 module _ (t : Topology) (order bits log : List ℕ) where
   set-right : asked (set t order bits log) ≡ allYes → described (set t order bits log) .Right (resultOf (set t order bits log))
@@ -76,6 +87,7 @@ module _ (t : Topology) (order bits log : List ℕ) where
         all-numbered = set-numbered order bits log;
         counted = length-setEntries (wiringOf t) n;
         runs = refl;
+        runs-by-rule = ap (λ (x : State). x .bits) (set-by-rule (lawful t) n n (start order) refl);
         right = set-right;
         fills = λ e.
             canonical-length (wiringOf t) n order (resultOf (set t order bits log)) (set-right e)
@@ -104,6 +116,12 @@ module _ (t : Topology) (n width : ℕ) (blocks bits log : List ℕ) where
   move-runs mixing = ap bytesOf (run-apply [] (lawful t) n bits (cut width n blocks) (length-cut width n blocks))
   move-runs returning = ap bytesOf (run-inverse [] (lawful t) n bits (cut width n blocks) (length-cut width n blocks))
 
+  move-by-rule : (d : Direction)
+      → bytesOf (runByNumber [] (bitOf d n bits) 0 (entriesDue t (moving d) n) (cut width n blocks))
+      ≡ movedBy (wiringOf t) d n width bits blocks
+  move-by-rule mixing = ap bytesOf (sym (apply-by-number [] (wiringOf t) n bits (cut width n blocks))) ∙ move-runs mixing
+  move-by-rule returning = ap bytesOf (sym (inverse-by-number [] (wiringOf t) n bits (cut width n blocks))) ∙ move-runs returning
+
   move-laws : (d : Direction) → Laws (move t d n width blocks bits log)
   move-laws d =
       record {
@@ -112,6 +130,7 @@ module _ (t : Topology) (n width : ℕ) (blocks bits log : List ℕ) where
         all-numbered = numbered n width (length blocks) bits (length log);
         counted = move-counted d;
         runs = move-runs d;
+        runs-by-rule = move-by-rule d;
         right = λ e. refl;
         fills = λ e.
             let fill = passes n width (length blocks) bits (length log) e .whole in
@@ -142,6 +161,9 @@ module _ (n r : ℕ) (list bits log : List ℕ) where
         all-numbered = rank-numbered n r list bits log;
         counted = length-setEntries paper n;
         runs = refl;
+        runs-by-rule =
+            ap (λ (x : State). x .bits)
+            (set-by-rule paper-lawful n (length (orderAt n r)) (start (orderAt n r)) (length-orderAt n r));
         right = rank-right;
         fills = λ e.
             canonical-length paper n (orderAt n r) (resultOf (rank n r list bits log)) (rank-right e)
@@ -205,13 +227,16 @@ pub logs : (c : Call) → Accepted c → Logs c
 logs c a =
     let e = accepted-passes c a in
     let L = leaves c e in
+    let count : countOf c ≡ due c = ap (λ (a : Answer). a .count) (L .answer) in
     let exact : entries (written c) ≡ dueEntries c = ap entries (L .words-are) ∙ entries-words (dueEntries c) in
     record {
-      count = ap (λ (a : Answer). a .count) (L .answer);
+      count = count;
+      counted = ap length exact ∙ due-counted c ∙ sym count;
       exact = exact;
       whole = L .words-are ∙ ap words (sym exact);
       beyond = L .log-is ∙ ap (overlay (described c .log) 0) (sym (L .words-are));
       replays = ap (replay c) exact ∙ laws c .runs ∙ sym (L .buffer);
+      replays-by-rule = ap (replayByRule c) exact ∙ laws c .runs-by-rule ∙ sym (L .buffer);
       right = left-right c e;
     }
 

@@ -8,8 +8,8 @@ use lib.ListN.{length, getD, take, drop}
 use Rattle.counts.specs.Counts.{W, E}
 use Rattle.network.specs.Wiring.{Wiring, Lawful, paper}
 use Rattle.network.specs.Network.{network}
-use Rattle.network.specs.Log.{Entry, entryWords, entries, entryAt}
-use Rattle.network.proofs.Shape.{none-such, entries-cut, entryAt-entries}
+use Rattle.network.specs.Log.{Entry, entryWords, entries, none-such, entryAt}
+use Rattle.network.proofs.Shape.{entries-cut, entryAt-entries}
 use Rattle.network.proofs.Run.{run-append}
 use Rattle.network.proofs.Positions.{apply-position, inverse-position}
 use Rattle.network.proofs.Paper.{paper-lawful}

@@ -12,10 +12,12 @@ use Rattle.network.specs.Wiring.{Wiring, paper}
 use Rattle.network.specs.Network.{network}
 use Rattle.network.specs.Blocks.{cut, bytesOf, moved, movedBack}
 use Rattle.network.specs.Log.{Entry, entryWords, applyEntries, inverseEntries, run}
+use Rattle.network.specs.ByNumber.{mixingBit, returningBit, runByNumber}
 use Rattle.canonical.specs.Rule.{Canonical}
 use Rattle.steps.specs.Sequence.{setEntries}
 use Rattle.steps.specs.State.{State, start}
 use Rattle.steps.specs.Run.{runSet}
+use Rattle.steps.specs.ByLookup.{runByLookup}
 use Rattle.apply_questions.specs.Questions.{applyQuestions}
 use Rattle.wirings.specs.declared.Topology.{Topology}
 use Rattle.wirings.specs.declared.Topology.the-variants.{Paper}
@@ -76,6 +78,11 @@ abbrev pub movedBy : Wiring → Direction → (n width : ℕ) (bits blocks : Lis
 movedBy w mixing n width bits blocks = moved w n width bits blocks
 movedBy w returning n width bits blocks = movedBack w n width bits blocks
 
+-- 01: the bit that entry e uses, by its number
+abbrev pub bitOf : Direction → (n : ℕ) (bits : List ℕ) → ℕ → ℕ
+bitOf mixing n bits = mixingBit bits
+bitOf returning n bits = returningBit n bits
+
 -- ---- what rank comes to, as a call that keeps a log
 
 -- the buffer that it fills is the bits; the order's list is lent beside
@@ -99,10 +106,12 @@ pub record Described : Type 1 where
   pub beside : List (List ℕ)
   pub besideLeft : List (List ℕ)
   -- running entries as a log: what they act on, as the call's own input that was lent gives it (of a listed order: as the order
-  -- that r names does), what entries make of it, and what of it is left at the end
+  -- that r names does), what entries make of it with the bits at their fourth words (02, F-7), what the same entries make of it by
+  -- 01's own rule, which reads no fourth word, and what of it is left at the end
   pub Working : Type 0
   pub begun : Working
   pub act : List Entry → Working → Working
+  pub actByRule : List Entry → Working → Working
   pub end : Working → List ℕ
   -- what has to be left
   pub Right : List ℕ → Type 0
@@ -122,6 +131,7 @@ described (set t order bits log) =
       Working = State;
       begun = start order;
       act = runSet (wiringOf t) (length order);
+      actByRule = runByLookup (wiringOf t) (length order);
       end = λ x. x .bits;
       -- demand 2's setting
       Right = λ left. Canonical (wiringOf t) (network (length order)) order left;
@@ -140,6 +150,7 @@ described (move t d n width blocks bits log) =
       Working = List (List ℕ);
       begun = cut width n blocks;
       act = run [] bits;
+      actByRule = runByNumber [] (bitOf d n bits) 0;
       end = bytesOf;
       -- the blocks as the wiring moves them under the lent bits
       Right = λ left. left ≡ movedBy (wiringOf t) d n width bits blocks;
@@ -158,6 +169,7 @@ described (rank n r list bits log) =
       Working = State;
       begun = start (orderAt n r);
       act = runSet paper (length (orderAt n r));
+      actByRule = runByLookup paper (length (orderAt n r));
       end = λ x. x .bits;
       -- the setting of the r-th order
       Right = λ left. Canonical paper (network n) (orderAt n r) left;
@@ -166,6 +178,10 @@ described (rank n r list bits log) =
 -- what entries leave that are run as the whole log of a call
 abbrev pub replay : Call → List Entry → List ℕ
 replay c es = described c .end (described c .act es (described c .begun))
+
+-- .. and by 01's own rule
+abbrev pub replayByRule : Call → List Entry → List ℕ
+replayByRule c es = described c .end (described c .actByRule es (described c .begun))
 
 -- ---- what a call did
 

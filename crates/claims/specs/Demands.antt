@@ -2,12 +2,14 @@
 -- Assumes nothing: these are definitions.
 use mathlib.Core.Path.{_≡_}
 use Prim.Native.Nat.{ℕ}
+use lib.ListN.{length}
 use Rattle.answers.specs.Answers.{refusal}
 use Rattle.answers.specs.Questions.{noAt, allYes, firstNo}
 use Rattle.answers.specs.Buffers.{overlay}
 use Rattle.answers.specs.Outcomes.{logged}
 use Rattle.network.specs.Log.{words, entries}
-use Rattle.claims.specs.Calls.{Call, described, replay, outcomeOf, wiringOfCall, Accepted, countOf, due, dueEntries, written}
+use Rattle.claims.specs.Calls.{Call, described, replay, replayByRule, outcomeOf, wiringOfCall, Accepted}
+use Rattle.claims.specs.Calls.{countOf, due, dueEntries, written}
 
 -- demand 1, of one call: it is accepted exactly when every question gets a yes; refused, it names the first question that
 -- gets a no and leaves all lent memory as it was
@@ -20,14 +22,17 @@ pub record Demand1 (c : Call) : Type 0 where
 
 -- what holds of the whole log of one accepted call
 pub record Logs (c : Call) : Type 0 where
-  -- it reports the definition's count, and wrote exactly the sequence given for its wiring, kind and n
+  -- it reports the definition's count, which is the number of entries that it wrote, and wrote exactly the sequence given for its
+  -- wiring, kind and n
   pub count : countOf c ≡ due c
+  pub counted : length (entries (written c)) ≡ countOf c
   pub exact : entries (written c) ≡ dueEntries c
   -- nothing but the entries' words is written, and the log beyond them is as it was
   pub whole : written c ≡ words (entries (written c))
   pub beyond : outcomeOf c .log ≡ overlay (described c .log) 0 (written c)
-  -- running the whole log gives exactly what the call left, and that is right
+  -- running the whole log gives exactly what the call left, by the fourth words and by 01's own rule, and that is right
   pub replays : replay c (entries (written c)) ≡ outcomeOf c .buffer
+  pub replays-by-rule : replayByRule c (entries (written c)) ≡ outcomeOf c .buffer
   pub right : described c .Right (outcomeOf c .buffer)
 
 -- the log rule compares calls in one wiring (02, F-6), alike in kind and n

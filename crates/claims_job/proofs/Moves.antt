@@ -14,8 +14,9 @@ use Rattle.counts.proofs.Most.{switches-few}
 use Rattle.network.specs.Wiring.{paper}
 use Rattle.network.specs.Log.{entryWords}
 use Rattle.network.specs.Blocks.{moved, movedBack}
+use Rattle.network.proofs.Paper.{paper-lawful}
 use Rattle.permutation.specs.Permutations.{IsPermutation}
-use Rattle.canonical.proofs.Paper.{paper-order}
+use Rattle.canonical.proofs.Carry.{canonical-order}
 use Rattle.sheets.specs.Sheet.{sheet}
 use Rattle.sheets.specs.Calls.{SettingRead}
 use Rattle.wirings.specs.declared.Topology.the-variants.{Paper}
@@ -92,7 +93,7 @@ module _ (n : ℕ) (order : List ℕ) (small : n ≤ 1024) (D : Demand2 Paper n 
 
     text-is : IsPermutation n order → settingText n (take (W n) (overlay buffer 0 setting)) ≡ shown n setting order
     unfolding settingText wiringOf
-    text-is O = ap (settingText n) front ∙ ap (shown n setting) (paper-order n order O setting (D .house .canonical))
+    text-is O = ap (settingText n) front ∙ ap (shown n setting) (canonical-order paper-lawful n order O setting (D .house .canonical))
 
     shows-so : IsPermutation n order → (out : List ℕ)
         → showCall made out ≡ outcome (accepted (length (shown n setting order))) (overlay out 0 (shown n setting order))

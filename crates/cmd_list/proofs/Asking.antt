@@ -13,8 +13,7 @@ use borrow.Author.Tests.{le-leb, lt-leb}
 use Rattle.answers.specs.Questions.{Question, ask, Verdict, allYes, noAt, firstNo}
 use Rattle.answers.specs.Buffers.{Put}
 use Rattle.answers.proofs.Questions.{asked-yes, asked-no, asked-both, asked-first}
-use Rattle.numbers.specs.Numbers.{numberQuestions, NumberAnswer, sevens}
-use Rattle.numbers.proofs.Numbers.{Reads}
+use Rattle.numbers.specs.Numbers.{numberQuestions, NumberAnswer, sevens, Reads}
 use Rattle.numbers.proofs.Reach.{place-near, asked-alike, read-alike}
 use Rattle.cmd_lines.specs.Text.{refusalLine}
 use Rattle.cmd_lines.specs.Written.{written}

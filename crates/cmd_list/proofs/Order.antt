@@ -21,14 +21,14 @@ use Rattle.network.proofs.Paper.{paper-lawful}
 use Rattle.steps.specs.Setting.{settingFor}
 use Rattle.steps_canonical.proofs.Setting.{setting-length}
 use Rattle.ranks_order.specs.Ranks.{factorial, orderAt}
-use Rattle.ranks_order.proofs.OrderAt.{factorial-small, length-orderAt, order-permutation}
+use Rattle.ranks_order.proofs.OrderAt.{length-orderAt, order-permutation}
 use Rattle.ranks.specs.Calls.{rankedQuestions, Ranked, ranked, rankedCall}
 use Rattle.ranks.proofs.Asked.{rank-passes}
 use Rattle.cmd_lines.specs.Text.{decimal}
 use Rattle.cmd_lines.proofs.Decimal.{decimal-one}
 use Rattle.cmd_lines.proofs.Lines.{bits-within}
 use Rattle.cmd_list_line.specs.Line.{behindCommas, entriesText, lineOf}
-use Rattle.cmd_list.specs.Listing.{orderLine, orderLines, ordersOf}
+use Rattle.cmd_list.specs.Listing.{orderLine, orderLines}
 
 -- ---- the counts of up to 6 places
 
@@ -79,9 +79,6 @@ unfolding orderLines
 lines-fit n few zero h = omega arith
 lines-fit n few (suc k) h =
     omega (arith, length-append (orderLines n k) (orderLine n k), lines-fit n few k (omega arith), line-fits n k few (omega arith))
-
-pub orders-fit : (n : ℕ) → n ≤ 6 → length (ordersOf n) ≤ 17280
-orders-fit n few = omega (arith, lines-fit n few (factorial n) (omega arith), factorial-small n few)
 
 -- ---- the call, with room for 6 places
 

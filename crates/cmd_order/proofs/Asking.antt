@@ -11,11 +11,11 @@ use Rattle.answers.specs.declared.Answer.{Answer}
 use Rattle.answers.specs.Questions.{Question, ask, allYes, firstNo}
 use Rattle.answers.specs.Outcomes.{outcome, settled}
 use Rattle.answers.proofs.Questions.{asked-yes, asked-no, asked-both, asked-first, passed, both-pass}
-use Rattle.numbers.specs.Numbers.{numberQuestions, numberAt, sevens}
+use Rattle.numbers.specs.Numbers.{numberQuestions, numberAt, sevens, Reads}
 use Rattle.numbers.specs.Reading.{meaning, answerOf}
 use Rattle.numbers.specs.declared.ReadNumber.{ReadNumber}
 use Rattle.numbers.specs.declared.ReadNumber.the-variants.{Number, Refused}
-use Rattle.numbers.proofs.Numbers.{Reads, refused, Got, got-number, got-refused}
+use Rattle.numbers.proofs.Numbers.{refused, Got, got-number, got-refused}
 use Rattle.rows.specs.Rows.{numbersQuestions, placePast, Row}
 use Rattle.rows.proofs.Reading.{RowOf, row-refused, row-stops}
 use Rattle.rows.proofs.Rows.{numbers-length}

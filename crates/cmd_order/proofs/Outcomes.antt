@@ -7,9 +7,9 @@ use native.Mathlib.Omega.{arith}
 use lib.ListN.{length, take, drop, length-append}
 use lib.Seq.{take-at}
 use Rattle.answers.specs.declared.Answer.{Answer}
-use Rattle.answers.specs.Questions.{allYes, firstNo}
+use Rattle.answers.specs.Questions.{allYes, firstNo, Numbered}
 use Rattle.answers.specs.Outcomes.{answerOf, bufferOf, Outcome, outcome}
-use Rattle.answers.proofs.Outcomes.{Numbered, accepted-when, numbered-both}
+use Rattle.answers.proofs.Outcomes.{accepted-when, numbered-both}
 use Rattle.answers.proofs.Buffers.{overlay-front}
 use Rattle.counts.specs.Counts.{W, E}
 use Rattle.numbers.specs.Numbers.{numberQuestions, sevens}

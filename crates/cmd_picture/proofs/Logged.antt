@@ -14,8 +14,8 @@ use Rattle.answers.proofs.Buffers.{overlay-front}
 use Rattle.bits.specs.Bits.{Bits}
 use Rattle.counts.specs.Counts.{W}
 use Rattle.network.specs.Wiring.{paper}
-use Rattle.network.specs.Log.{Entry, entryWords, words, entryAt, applyEntries}
-use Rattle.network.proofs.Shape.{none-such, entryAt-front, length-applyEntries}
+use Rattle.network.specs.Log.{Entry, entryWords, words, none-such, entryAt, applyEntries}
+use Rattle.network.proofs.Shape.{entryAt-front, length-applyEntries}
 use Rattle.network.proofs.Paper.{paper-lawful}
 use Rattle.permutation.proofs.Tables.{is-tabulate}
 use Rattle.apply.specs.Calls.{applyCall}

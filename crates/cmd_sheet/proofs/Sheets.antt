@@ -23,8 +23,8 @@ use Rattle.permutation.proofs.Permutations.{passes-permutation}
 use Rattle.canonical.proofs.Only.{canonical-bits}
 use Rattle.steps_canonical.proofs.Whole.{setting-canonical}
 use Rattle.sheets.specs.Sheet.{sheet}
-use Rattle.sheets.specs.Calls.{writeSheet}
-use Rattle.sheets.proofs.Round.{Writable, write-accepts}
+use Rattle.sheets.specs.Calls.{writeSheet, Writable}
+use Rattle.sheets.proofs.Round.{write-accepts}
 use Rattle.sheets.proofs.Writing.{sheet-length}
 use Rattle.steps.specs.Setting.{settingFor}
 use Rattle.cmd_order.specs.Orders.{countIn, orderIn, formQuestions, entryQuestions, orderQuestions, orderSetting}

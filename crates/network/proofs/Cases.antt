@@ -4,12 +4,14 @@
 use mathlib.Core.Path.{_≡_, refl}
 use mathlib.Core.List.{List, [], _∷_, map}
 use Prim.Native.Nat.{ℕ}
+use Rattle.counts.specs.Counts.{W, byHalves}
 use Rattle.permutation.specs.Permutations.{tabulate}
 use Rattle.network.specs.Wiring.{Wiring, paper, neighbour}
 use Rattle.network.specs.Network.{network, networkIn, switchCount}
 use Rattle.network.specs.Move.{switch, layer, layerBack, part, joined, forward, backward}
 use Rattle.network.specs.Blocks.{cut, bytesOf, moved, movedBack, orderOf}
 use Rattle.network.specs.Log.{words, layerEntries, switches, applyEntries, inverseEntries, runEntry, run}
+use Rattle.network.specs.ByNumber.{mixingBit, returningBit, runByNumber}
 
 -- what differs from wiring to wiring: the settings of cases d and g, and the words of logs
 pub record InWiring : Type 0 where
@@ -94,6 +96,16 @@ case-run = refl
 pub case-run-back : both (λ c. run 0 (c .g) (inverseEntries (c .wiring) 9) hfbcieadg) ≡ both (λ c. abcdefghi)
 unfolding network networkIn switchCount layerEntries switches applyEntries inverseEntries switch runEntry run
 case-run-back = refl
+
+-- .. and by 01's rule: the bits by the entries' numbers
+pub case-by-number : both (λ c. runByNumber 0 (mixingBit (c .g)) 0 (applyEntries (c .wiring) 9) abcdefghi) ≡ both (λ c. hfbcieadg)
+unfolding network networkIn switchCount layerEntries switches applyEntries switch runByNumber
+case-by-number = refl
+
+pub case-by-number-back : both (λ c. runByNumber 0 (returningBit 9 (c .g)) 0 (inverseEntries (c .wiring) 9) hfbcieadg)
+    ≡ both (λ c. abcdefghi)
+unfolding W byHalves network networkIn switchCount layerEntries switches applyEntries inverseEntries switch runByNumber
+case-by-number-back = refl
 
 -- three blocks of two bytes under case d's setting: ab, cd, ef become ef, ab, cd
 pub case-width : both (λ c. moved (c .wiring) 3 2 (c .d) (97 ∷ 98 ∷ 99 ∷ 100 ∷ 101 ∷ 102 ∷ []))

@@ -12,7 +12,7 @@ use lib.Seq.{getD-append-seam, set-append-seam, drop-cons, length-take-le, set-c
 use borrow.Author.Tests.{eqb-true}
 use Rattle.network.specs.Wiring.{Wiring, Lawful}
 use Rattle.network.specs.Network.{network}
-use Rattle.network.specs.Move.{switch, forward, backward}
+use Rattle.network.specs.Move.{switch, Kept, forward, backward}
 use Rattle.network.specs.Blocks.{cut, moved, movedBack}
 use Rattle.network.specs.Log.{Entry, runEntry, run}
 use Rattle.network.proofs.Shape.{length-backward}
@@ -47,10 +47,6 @@ module _ {A : Type 0} (d : A) where
   switch-none p xs = rw (set-getD xs p d) (set-getD xs p d)
 
 -- ---- an exchange of two places of a list
-
--- F is the same of a list and of what an exchange of any two of its places leaves
-abbrev pub Kept : {A : Type 0} → A → {B : Type 0} → (List A → B) → Type 0
-Kept {A} d F = (p q : ℕ) (xs : List A) → p < length xs → q < length xs → F (switch d p q 1 xs) ≡ F xs
 
 -- where it is so of two items of a list that is taken apart
 module _

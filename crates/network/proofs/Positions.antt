@@ -1,22 +1,21 @@
--- The fourth words of a log (02, F-7): entry e of mixing has position e, of returning position W(n) - 1 - e. So 01's rule, by which an
--- entry's number tells its bit, still holds of running, where nothing counts entries.
+-- The fourth words of a log (02, F-7): entry e of mixing has position e, of returning position W(n) - 1 - e. So 01's rule of running,
+-- by which an entry's number tells its bit (specs/ByNumber), comes to the same as the fourth words.
 -- Assumes nothing.
-use mathlib.Core.Bool.{cond, false, true}
+use mathlib.Core.Bool.{false, true}
 use mathlib.Core.Path.{_≡_, refl, sym, ap, _∙_}
-use mathlib.Core.List.{List, [], _∷_, _++_, reverse, reverse-cons}
+use mathlib.Core.List.{List, [], _∷_, _++_, map, reverse, reverse-cons}
 use Prim.Native.Nat.{ℕ, zero, suc, _+_, _-_, _<_}
 use native.Mathlib.Nat.{add-zero, zero-add}
 use native.Mathlib.Omega.{arith}
 use native.Mathlib.Decide.{decLt}
-use lib.Dec.{eqb}
 use lib.ListN.{length, getD, length-append, length-reverse, List·getD-append}
 use lib.Seq.{getD-append-add}
 use Rattle.counts.specs.Counts.{up, W}
 use Rattle.network.specs.Wiring.{Wiring, Side}
 use Rattle.network.specs.Network.{Network, wires, split, network, switchCount, down}
-use Rattle.network.specs.Move.{switch}
-use Rattle.network.specs.Log.{Entry, entry, layerEntries, switches, applyEntries, inverseEntries, runEntry, run}
-use Rattle.network.proofs.Shape.{none-such, length-layerEntries, length-switches, length-applyEntries, length-inverseEntries}
+use Rattle.network.specs.Log.{Entry, entry, none-such, layerEntries, switches, applyEntries, inverseEntries, runEntry, run}
+use Rattle.network.specs.ByNumber.{mixingBit, returningBit, runByNumber}
+use Rattle.network.proofs.Shape.{length-layerEntries, length-switches, length-applyEntries, length-inverseEntries}
 
 -- ---- positions
 
@@ -107,15 +106,9 @@ inverse-position w n e h =
 -- ---- 01's rule
 
 module _ {A : Type 0} (d : A) where
-  -- entries run by their numbers, the first being number e: `bit` gives the bit of a number, and no fourth word is read
-  unfoldable pub runByNumber : (ℕ → ℕ) → ℕ → List Entry → List A → List A
-  runByNumber bit e [] xs = xs
-  runByNumber bit e (x ∷ es) xs =
-      runByNumber bit (suc e) es (cond (eqb (x .kind) 7) (switch d (x .first) (x .second) (bit e) xs) xs)
-
   by-number : (bits : List ℕ) (bit : ℕ → ℕ) (e : ℕ) (es : List Entry) (xs : List A)
       → ((i : ℕ) → i < length es → getD bits (getD es i none-such .bit) 0 ≡ bit (e + i))
-      → run d bits es xs ≡ runByNumber bit e es xs
+      → run d bits es xs ≡ runByNumber d bit e es xs
   unfolding run runEntry runByNumber
   by-number bits bit e [] xs h = refl
   by-number bits bit e (x ∷ es) xs h =
@@ -124,18 +117,25 @@ module _ {A : Type 0} (d : A) where
       (by-number bits bit (suc e) es _
       (λ i l. h (suc i) (omega arith) ∙ ap bit (let f : e + suc i ≡ suc e + i = omega arith in f)))
 
+  -- it reads no fourth word: others in their place change nothing
+  pub fourth-unread : (bit : ℕ → ℕ) (e : ℕ) (other : Entry → ℕ) (es : List Entry) (xs : List A)
+      → runByNumber d bit e (map (λ (x : Entry). entry (x .kind) (x .first) (x .second) (other x)) es) xs ≡ runByNumber d bit e es xs
+  unfolding runByNumber
+  fourth-unread bit e other [] xs = refl
+  fourth-unread bit e other (x ∷ es) xs = fourth-unread bit (suc e) other es _
+
   -- mixing: entry e uses bit e
   pub apply-by-number : (w : Wiring) (n : ℕ) (bits : List ℕ) (xs : List A)
-      → run d bits (applyEntries w n) xs ≡ runByNumber (λ e. getD bits e 0) 0 (applyEntries w n) xs
+      → run d bits (applyEntries w n) xs ≡ runByNumber d (mixingBit bits) 0 (applyEntries w n) xs
   apply-by-number w n bits xs =
-      by-number bits (λ e. getD bits e 0) 0 (applyEntries w n) xs
+      by-number bits (mixingBit bits) 0 (applyEntries w n) xs
       (λ i h. ap (λ j. getD bits j 0) (apply-position w n i (omega (arith, length-applyEntries w n)) ∙ sym (zero-add i)))
 
   -- returning: entry e uses bit W(n) - 1 - e
   pub inverse-by-number : (w : Wiring) (n : ℕ) (bits : List ℕ) (xs : List A)
-      → run d bits (inverseEntries w n) xs ≡ runByNumber (λ e. getD bits (W n - 1 - e) 0) 0 (inverseEntries w n) xs
+      → run d bits (inverseEntries w n) xs ≡ runByNumber d (returningBit n bits) 0 (inverseEntries w n) xs
   inverse-by-number w n bits xs =
-      by-number bits (λ e. getD bits (W n - 1 - e) 0) 0 (inverseEntries w n) xs
+      by-number bits (returningBit n bits) 0 (inverseEntries w n) xs
       (λ i h.
       ap (λ j. getD bits j 0)
       (inverse-position w n i (omega (arith, length-inverseEntries w n)) ∙ ap (λ j. W n - 1 - j) (sym (zero-add i))))

@@ -9,14 +9,13 @@ use native.Mathlib.Omega.{arith}
 use native.Mathlib.Decide.{decLt}
 use lib.Dec.{eqb}
 use lib.ListN.{length, getD, set, take, drop, length-append, length-set, length-reverse, List·getD-append}
-use lib.Seq.{take-at}
 use borrow.Author.Tests.{lt-ltb, le-ltb}
 use Rattle.counts.specs.Counts.{up, W}
 use Rattle.counts.proofs.Rule.{W-none, W-more}
 use Rattle.network.specs.Wiring.{Wiring, Side}
 use Rattle.network.specs.Network.{Network, wires, split, network, networkIn, switchCount, down}
 use Rattle.network.specs.Move.{switch, layer, layerBack, part, joined, forward, backward}
-use Rattle.network.specs.Log.{Entry, entry, entryWords, words, entries, entryAt, layerEntries, switches, applyEntries, inverseEntries}
+use Rattle.network.specs.Log.{Entry, entry, entryWords, words, entries, none-such, entryAt, layerEntries, switches, applyEntries, inverseEntries}
 
 -- a network of m places as the rule builds it
 pub data Sized : ℕ → Network → Type 0 where
@@ -136,19 +135,11 @@ unfolding words entries
 entries-words [] = refl
 entries-words (e ∷ es) = ap (λ (l : List Entry). e ∷ l) (entries-words es)
 
--- the entries of a log: the words of a buffer, as many as the entries have
-pub entries-take : (es : List Entry) (rest : List ℕ) → entries (take (entryWords * length es) (words es ++ rest)) ≡ es
-entries-take es rest = rw (take-at (words es) rest (entryWords * length es) (length-words es)) (entries-words es)
-
 -- and with any words behind them
 entries-front : (es : List Entry) (rest : List ℕ) → entries (words es ++ rest) ≡ es ++ entries rest
 unfolding words entries
 entries-front [] rest = refl
 entries-front (e ∷ es) rest = ap (λ (l : List Entry). e ∷ l) (entries-front es rest)
-
--- no entry that a call writes
-abbrev pub none-such : Entry
-none-such = entry 0 0 0 0
 
 -- the reader of one entry reads what the reader of all does
 pub entryAt-entries : (log : List ℕ) (e : ℕ) → e < length (entries log) → entryAt log e ≡ getD (entries log) e none-such

@@ -37,6 +37,10 @@ entries (a ∷ b ∷ []) = []
 entries (a ∷ b ∷ c ∷ []) = []
 entries (a ∷ b ∷ c ∷ d ∷ rest) = entry a b c d ∷ entries rest
 
+-- what stands for an entry past the end of some: no call writes it
+abbrev pub none-such : Entry
+none-such = entry 0 0 0 0
+
 -- one entry of them, number e
 abbrev pub entryAt : List ℕ → ℕ → Entry
 entryAt log e =

@@ -1,8 +1,9 @@
 -- How a network moves a list of anything, by its own rule (01, 'Running a log', last part; 001, Figure 11).
 -- Assumes nothing: these are definitions.
+use mathlib.Core.Path.{_≡_}
 use mathlib.Core.Bool.{Bool, true, false, cond}
 use mathlib.Core.List.{List, [], _∷_, _++_}
-use Prim.Native.Nat.{ℕ, zero, suc, _+_, _-_}
+use Prim.Native.Nat.{ℕ, zero, suc, _+_, _-_, _<_}
 use lib.Dec.{eqb}
 use lib.ListN.{length, getD, set, drop}
 use Rattle.counts.specs.Counts.{up}
@@ -13,6 +14,10 @@ module _ {A : Type 0} (d : A) where
   -- a switch on the places p and q: bit 1 exchanges the two items, another leaves them (d stands past a list's end)
   unfoldable pub switch : ℕ → ℕ → ℕ → List A → List A
   switch p q bit xs = cond (eqb bit 1) (set (set xs p (getD xs q d)) q (getD xs p d)) xs
+
+  -- F is the same of a list and of what an exchange of any two of its places leaves
+  abbrev pub Kept : {B : Type 0} → (List A → B) → Type 0
+  Kept F = (p q : ℕ) (xs : List A) → p < length xs → q < length xs → F (switch p q 1 xs) ≡ F xs
 
   module _ (w : Wiring) where
     -- the first c switches of a layer of k pairs, first to last: switch i on pair i, under bit i

@@ -11,11 +11,11 @@ use lib.ListN.{length, length-append}
 use lib.Seq.{getD-append-seam, getD-append-add}
 use borrow.Author.Tests.{lt-ltb, le-ltb, le-leb, lt-leb, ltb-true}
 use Rattle.answers.specs.Answers.{refusal}
-use Rattle.answers.specs.Questions.{Question, ask, Verdict, allYes, noAt, firstNo}
+use Rattle.answers.specs.Questions.{Question, ask, Verdict, allYes, noAt, firstNo, Numbered}
 use Rattle.answers.specs.Outcomes.{answerOf}
 use Rattle.answers.proofs.Questions.{passed}
-use Rattle.answers.proofs.Outcomes.{Numbered, accepted-when}
-use Rattle.numbers.specs.Numbers.{numberBytes, byteAt, oneByte, ends, numberQuestions, valueAt, placeAfter, NumberAnswer, numberAnswer, numberAt, NumberForm, sevens}
+use Rattle.answers.proofs.Outcomes.{accepted-when}
+use Rattle.numbers.specs.Numbers.{numberBytes, byteAt, oneByte, ends, numberQuestions, valueAt, placeAfter, NumberAnswer, numberAnswer, numberAt, NumberForm, sevens, Reads}
 use Rattle.numbers.specs.Reading.{meaning, readOf}
 use Rattle.numbers.specs.declared.ReadNumber.{ReadNumber}
 use Rattle.numbers.specs.declared.ReadNumber.the-variants.{Number, Refused}
@@ -95,12 +95,6 @@ module _ (input : List ℕ) (at : ℕ) where
 pub numbered : (input : List ℕ) (at : ℕ) → Numbered (numberQuestions input at)
 unfolding numberQuestions
 numbered input at = (omega arith, (omega arith, (omega arith, tt)))
-
--- what is read where a number of a form is read: every question gets a yes, and these are the number and the place after it
-pub record Reads (form : NumberForm) (input : List ℕ) (at v p : ℕ) : Type 0 where
-  pub asked : firstNo (form .questions input at) ≡ allYes
-  pub value : form .read input at .value ≡ v
-  pub next : form .read input at .next ≡ p
 
 module _ (input : List ℕ) (at : ℕ) where
   past : 0 < placeAfter input at

@@ -1,5 +1,6 @@
 -- Numbers in groups of seven bits, in one or two bytes (01, 'Sheet'; 'The questions', 8 and 9).
 -- Assumes nothing: these are definitions.
+use mathlib.Core.Path.{_≡_}
 use mathlib.Core.Bool.{Bool, true, false, _&&_, _||_}
 use mathlib.Core.List.{List, [], _∷_}
 use Prim.Native.Nat.{ℕ, _+_, _*_, _/_, _%_}
@@ -69,3 +70,9 @@ pub record NumberForm : Type 0 where
 -- groups of seven bits, one or two bytes
 abbrev pub sevens : NumberForm
 sevens = record { bytes = numberBytes; questions = numberQuestions; read = numberAt }
+
+-- what is read where a number of a form is read: every question gets a yes, and these are the number and the place after it
+pub record Reads (form : NumberForm) (input : List ℕ) (at v p : ℕ) : Type 0 where
+  pub asked : firstNo (form .questions input at) ≡ allYes
+  pub value : form .read input at .value ≡ v
+  pub next : form .read input at .next ≡ p

@@ -11,7 +11,7 @@ use lib.ListN.{length, getD}
 use borrow.Author.Tests.{eq-eqb, eqb-true, not-true, not-false}
 use Rattle.answers.specs.Questions.{firstBad}
 use Rattle.answers.proofs.Questions.{bad-within, all-good, bad-at}
-use Rattle.permutation.specs.Permutations.{IsPermutation, placeOf, inverted}
+use Rattle.permutation.specs.Permutations.{IsPermutation, StandsOnce, placeOf, inverted}
 use Rattle.permutation.proofs.Pigeons.{Met, met}
 use Rattle.permutation.proofs.Tables.{length-tabulate, tabulate-at}
 
@@ -60,13 +60,6 @@ module _ (n : ℕ) (es : List ℕ) (P : IsPermutation n es) where
         below = λ v l. rw (inverted-at v l) (place-below v l);
         unlike = λ v w lv lw e. sym (entry-of-inverted v lv) ∙ ap (λ i. getD es i 0) e ∙ entry-of-inverted w lw;
       }
-
--- a value of a permutation, with the one place where it stands
-pub record StandsOnce (n : ℕ) (es : List ℕ) (v : ℕ) : Type 0 where
-  pub at : ℕ
-  pub at-below : at < n
-  pub holds : getD es at 0 ≡ v
-  pub only : (i : ℕ) → i < n → getD es i 0 ≡ v → i ≡ at
 
 pub stands-once : (n : ℕ) (es : List ℕ) → IsPermutation n es → (v : ℕ) → v < n → StandsOnce n es v
 stands-once n es P v l =

@@ -35,6 +35,13 @@ pub record IsPermutation (n : ℕ) (es : List ℕ) : Type 0 where
   pub below : (i : ℕ) → i < n → getD es i 0 < n
   pub unlike : (i j : ℕ) → i < n → j < n → getD es i 0 ≡ getD es j 0 → i ≡ j
 
+-- 'each once': a value of it, with the one place where it stands
+pub record StandsOnce (n : ℕ) (es : List ℕ) (v : ℕ) : Type 0 where
+  pub at : ℕ
+  pub at-below : at < n
+  pub holds : getD es at 0 ≡ v
+  pub only : (i : ℕ) → i < n → getD es i 0 ≡ v → i ≡ at
+
 -- f 0, f 1, .., f (n - 1)
 unfoldable pub tabulate : (ℕ → ℕ) → ℕ → List ℕ
 tabulate f zero = []

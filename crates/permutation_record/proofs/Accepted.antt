@@ -14,7 +14,8 @@ use Rattle.answers.specs.Answers.{accepted}
 use Rattle.answers.specs.Questions.{ask, askEach, firstBad}
 use Rattle.answers.proofs.Questions.{asked-yes, none-bad}
 use Rattle.permutation.specs.Permutations.{IsPermutation, identity, exchanged, combined, inverted, fixedPoints}
-use Rattle.permutation_record.specs.Records.{recordOf, listOf, questionsOf, WellFormed, identityCall, fromListCall, exchangeCall, combineCall, inverseCall, fixedPointsCall}
+use Rattle.permutation_record.specs.Records.{recordOf, listOf, questionsOf, WellFormed, reply, identityCall, fromListCall}
+use Rattle.permutation_record.specs.Records.{exchangeCall, combineCall, inverseCall, fixedPointsCall}
 use Rattle.permutation_record.specs.declared.Permutation.{Permutation}
 use Rattle.permutation.proofs.Permutations.{good-when, same-good, permutation-passes}
 use Rattle.permutation.proofs.Tables.{getD-blank}
@@ -22,7 +23,7 @@ use Rattle.permutation_questions.specs.Questions.{goodInRecord}
 use Rattle.permutation_questions.proofs.Questions.{good-in-list, good-past}
 use Rattle.permutation_entries.specs.Entries.{padded}
 use Rattle.permutation_record.proofs.Records.{sound}
-use Rattle.permutation_record.proofs.Replies.{reply, replies-accepted, identity-done, list-done, exchange-done, combine-done, asking-given, asking-back}
+use Rattle.permutation_record.proofs.Replies.{replies-accepted, identity-done, list-done, exchange-done, combine-done, asking-given, asking-back}
 
 -- ---- the record of a permutation of at most 1,024 places passes questions 1 and 6
 

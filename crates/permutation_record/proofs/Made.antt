@@ -9,19 +9,21 @@ use lib.Dec.{leb, ltb, eqb}
 use lib.ListN.{length}
 use borrow.Author.Tests.{leb-true, ltb-true, eqb-true}
 use Rattle.answers.specs.Answers.{accepted}
-use Rattle.answers.specs.Questions.{Question, ask, askEach, allYes, firstNo}
-use Rattle.answers.proofs.Outcomes.{Numbered, numbered-both, accepted-when}
+use Rattle.answers.specs.Questions.{Question, ask, askEach, allYes, firstNo, Numbered}
+use Rattle.answers.proofs.Outcomes.{numbered-both, accepted-when}
 use Rattle.answers.proofs.Questions.{passed, both-pass}
 use Rattle.permutation.specs.Permutations.{IsPermutation, goodEntry, firstBadEntry, identity, exchanged, combined, inverted, fixedPoints}
 use Rattle.permutation.proofs.Permutations.{both-true, passes-permutation}
 use Rattle.permutation.proofs.Laws.{identity-permutation, exchanged-permutation, combined-permutation}
 use Rattle.permutation.proofs.Inverses.{inverted-permutation}
-use Rattle.permutation_record.specs.Records.{recordOf, listOf, questionsOf, WellFormed, exchangeAsks, combineAsks, fromListAsks, recordAfter, replied, identityCall, fromListCall, exchangeCall, combineCall, inverseCall, fixedPointsCall}
-use Rattle.permutation_record.specs.Made.{Gives, Made, by-identity, by-list, by-exchange, by-combine, by-inverse}
+use Rattle.permutation_record.specs.Records.{recordOf, listOf, lengthAsks, questionsOf, exchangeAsks, combineAsks}
+use Rattle.permutation_record.specs.Records.{fromListAsks, recordAfter, replied, reply, identityCall, fromListCall}
+use Rattle.permutation_record.specs.Records.{exchangeCall, combineCall, inverseCall, fixedPointsCall}
+use Rattle.permutation_record.specs.Made.{Gives, Handed, Whole, Made, by-identity, by-list, by-exchange, by-combine, by-inverse, by-asking}
 use Rattle.permutation_record.specs.declared.Permutation.{Permutation}
 use Rattle.permutation_record.specs.declared.Reply.{Reply}
 use Rattle.permutation_record.proofs.Records.{sound}
-use Rattle.permutation_record.proofs.Replies.{reply, record-numbered}
+use Rattle.permutation_record.proofs.Replies.{record-numbered}
 use Rattle.permutation_record.proofs.Accepted.{record-room, record-well-formed, list-accepted, fixed-points-true}
 
 -- ---- what an accepted call gave
@@ -37,11 +39,6 @@ unfolding replied
 gave qs count result handed numbered g =
     let a : firstNo qs ≡ allYes = accepted-when qs count numbered (g .accepted) in
     record { passed = a; is = sym (g .gives) ∙ ap (λ v. recordAfter v result handed) a }
-
--- a record that passes, of as many entries as the code's have
-pub record Whole (p : Permutation) : Type 0 where
-  pub room : length (p .entries) ≡ 1024
-  pub well-formed : WellFormed p
 
 whole-of : (n : ℕ) (es : List ℕ) {p : Permutation} → IsPermutation n es → n ≤ 1024 → p ≡ recordOf es → Whole p
 whole-of n es P h e =
@@ -62,7 +59,7 @@ list-gives es g =
     let b = passed 6 (firstBadEntry es) (entries .yes) [] (a .rest) in
     whole-of (length es) es (passes-permutation es (eqb-true _ _ (b .here))) (leb-true _ _ (a .here)) (G .is)
 
-module _ (q : Permutation) (room : length (q .entries) ≡ 1024) {p : Permutation} where
+module _ (q : Permutation) (room : Handed q) {p : Permutation} where
   pub inverse-gives : Gives (inverseCall q) p → Whole p
   inverse-gives g =
       let G = gave (questionsOf q) 0 (recordOf (inverted (listOf q))) q (record-numbered q) g in
@@ -80,7 +77,7 @@ module _ (q : Permutation) (room : length (q .entries) ≡ 1024) {p : Permutatio
       let P = exchanged-permutation i j (q .length) (listOf q) (S .permutation) (ltb-true _ _ (both .0)) (ltb-true _ _ (both .1)) in
       whole-of (q .length) (exchanged (listOf q) i j) P (S .small) (G .is)
 
-  pub combine-gives : (r : Permutation) → length (r .entries) ≡ 1024 → Gives (combineCall q r) p → Whole p
+  pub combine-gives : (r : Permutation) → Handed r → Gives (combineCall q r) p → Whole p
   combine-gives r room-r g =
       let last = ask 15 0 (eqb (q .length) (r .length)) ∷ [] in
       let numbered = numbered-both (questionsOf q) (questionsOf r ++ last) (record-numbered q)
@@ -95,14 +92,19 @@ module _ (q : Permutation) (room : length (q .entries) ≡ 1024) {p : Permutatio
       let P = combined-permutation (q .length) (listOf q) (S .permutation) (listOf r) R in
       whole-of (q .length) (combined (listOf q) (listOf r)) P (S .small) (G .is)
 
+-- the asking gives the record that it was handed
+asking-gives : (q : Permutation) {p : Permutation} → Gives (fixedPointsCall q) p → q ≡ p
+asking-gives q g = sym (gave (lengthAsks (q .length)) (q .fixed) q q (omega arith, tt) g .is)
+
 -- ---- so every made record is such a one, and its number is true
 
 pub made-whole : {p : Permutation} → Made p → Whole p
 made-whole (by-identity n g) = identity-gives n g
 made-whole (by-list es g) = list-gives es g
-made-whole (by-exchange q i j m g) = exchange-gives q (made-whole m .room) i j g
-made-whole (by-combine q r m k g) = combine-gives q (made-whole m .room) r (made-whole k .room) g
-made-whole (by-inverse q m g) = inverse-gives q (made-whole m .room) g
+made-whole (by-exchange q i j h g) = exchange-gives q h i j g
+made-whole (by-combine q r h k g) = combine-gives q h r k g
+made-whole (by-inverse q h g) = inverse-gives q h g
+made-whole (by-asking q m g) = subst Whole (asking-gives q g) (made-whole m)
 
 pub made-true : {p : Permutation} → Made p → fixedPointsCall p ≡ reply (accepted (fixedPoints (listOf p))) p
 made-true {p} m = let W = made-whole m in fixed-points-true p (W .room) (W .well-formed)

@@ -24,7 +24,7 @@ use Rattle.permutation_entries.specs.Entries.{padded}
 use Rattle.permutation_entries.specs.Fillings.{countedOf}
 use Rattle.permutation_entries.specs.declared.Counted.{Counted}
 use Rattle.permutation_entries.proofs.Entries.{is-padded}
-use Rattle.permutation_record.specs.Records.{recordOf, listOf, WellFormed}
+use Rattle.permutation_record.specs.Records.{recordOf, listOf, WellFormed, Sound}
 use Rattle.permutation_record.specs.declared.Permutation.{Permutation}
 
 -- ---- a record whose entries are a list's, with the list's number, is the record of that list
@@ -40,12 +40,6 @@ pub is-record-filled : (n : ℕ) {made : Counted} (es : List ℕ) → length es 
 is-record-filled n es k e = is-record-of n es k (ap (λ (m : Counted). m .entries) e) (ap (λ (m : Counted). m .fixed) e)
 
 -- ---- what a record that passes is
-
-pub record Sound (p : Permutation) : Type 0 where
-  pub small : p .length ≤ 1024
-  pub permutation : IsPermutation (p .length) (listOf p)
-  pub past : (v : ℕ) → p .length ≤ v → getD (p .entries) v 0 ≡ 0
-  pub fixed-true : p .fixed ≡ fixedPoints (listOf p)
 
 module _ (p : Permutation) (s : length (p .entries) ≡ 1024) where
   pub sound : WellFormed p → Sound p

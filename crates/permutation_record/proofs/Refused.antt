@@ -12,12 +12,10 @@ use Rattle.answers.specs.Questions.{Question, ask, askEach, firstBad, noAt, fir
 use Rattle.answers.proofs.Questions.{asked-yes, asked-no, asked-first, asked-both, passed}
 use Rattle.permutation.specs.Permutations.{exchanged, combined, inverted, fixedPoints}
 use Rattle.permutation_questions.specs.Questions.{goodInRecord}
-use Rattle.permutation_record.specs.Records.{recordOf, listOf, questionsOf, WellFormed, exchangeAsks, combineAsks, exchangeCall, combineCall, inverseCall}
+use Rattle.permutation_record.specs.Records.{recordOf, listOf, questionsOf, WellFormed, corrected, exchangeAsks, combineAsks}
+use Rattle.permutation_record.specs.Records.{reply, exchangeCall, combineCall, inverseCall}
 use Rattle.permutation_record.specs.declared.Permutation.{Permutation}
-use Rattle.permutation_record.proofs.Replies.{reply, replies-refused}
-
-abbrev pub corrected : Permutation → Permutation
-corrected p = record { length = p .length; entries = p .entries; fixed = fixedPoints (listOf p) }
+use Rattle.permutation_record.proofs.Replies.{replies-refused}
 
 module _ (p : Permutation) (w : WellFormed (corrected p)) (wrong : p .fixed ≢ fixedPoints (listOf p)) where
   stops : firstNo (questionsOf p) ≡ noAt 6 1024

@@ -11,17 +11,15 @@ use lib.ListN.{length}
 use borrow.Author.Tests.{le-leb, lt-leb, le-ltb, lt-ltb, eq-eqb, ne-eqb}
 use Rattle.answers.specs.declared.Answer.{Answer}
 use Rattle.answers.specs.Answers.{refusal, accepted}
-use Rattle.answers.specs.Questions.{Question, ask, askEach, Verdict, allYes, noAt, firstNo}
+use Rattle.answers.specs.Questions.{Question, ask, askEach, Verdict, allYes, noAt, firstNo, Numbered}
 use Rattle.answers.specs.Outcomes.{answerOf}
-use Rattle.answers.proofs.Outcomes.{Numbered, accepted-when}
+use Rattle.answers.proofs.Outcomes.{accepted-when}
 use Rattle.answers.proofs.Questions.{asked-yes, asked-no, asked-both, asked-first, bad-within}
 use Rattle.permutation.specs.Permutations.{goodEntry, firstBadEntry, tabulate, identity, exchanged, combined}
-use Rattle.permutation_record.specs.Records.{recordOf, listOf, questionsOf, WellFormed, exchangeAsks, combineAsks, recordAfter, replied, identityCall, fromListCall, exchangeCall, combineCall, lengthAsks, fixedPointsCall}
+use Rattle.permutation_record.specs.Records.{recordOf, listOf, lengthAsks, questionsOf, WellFormed, exchangeAsks, combineAsks}
+use Rattle.permutation_record.specs.Records.{reply, recordAfter, replied, identityCall, fromListCall, exchangeCall, combineCall, fixedPointsCall}
 use Rattle.permutation_record.specs.declared.Permutation.{Permutation}
 use Rattle.permutation_record.specs.declared.Reply.{Reply}
-
-abbrev pub reply : Answer → Permutation → Reply
-reply a p = record { answer = a; permutation = p }
 
 module _ (qs : List Question) (count : ℕ) (result handed : Permutation) {a : Answer} {p : Permutation} where
   pub replies-refused : {q k : ℕ} → firstNo qs ≡ noAt q k → a ≡ refusal q k → p ≡ handed → reply a p ≡ replied qs count result handed

@@ -3,12 +3,13 @@
 use mathlib.Core.Path.{_≡_}
 use mathlib.Core.Bool.{_&&_}
 use mathlib.Core.List.{List, [], _∷_, _++_}
-use Prim.Native.Nat.{ℕ}
+use Prim.Native.Nat.{ℕ, _≤_}
 use lib.Dec.{leb, ltb, eqb}
-use lib.ListN.{length, take}
+use lib.ListN.{length, getD, take}
+use Rattle.answers.specs.declared.Answer.{Answer}
 use Rattle.answers.specs.Questions.{Question, ask, askEach, Verdict, allYes, noAt, firstNo}
 use Rattle.answers.specs.Outcomes.{answerOf}
-use Rattle.permutation.specs.Permutations.{goodEntry, identity, exchanged, combined, inverted, fixedPoints}
+use Rattle.permutation.specs.Permutations.{IsPermutation, goodEntry, identity, exchanged, combined, inverted, fixedPoints}
 use Rattle.permutation_questions.specs.Questions.{recordAsks}
 use Rattle.permutation_entries.specs.Entries.{padded}
 use Rattle.permutation_record.specs.declared.Permutation.{Permutation}
@@ -38,6 +39,17 @@ questionsOf p = recordAsks (p .length) (p .entries) (p .fixed)
 abbrev pub WellFormed : Permutation → Type 0
 WellFormed p = firstNo (questionsOf p) ≡ allYes
 
+-- what that says: the list of a permutation, nothing past it, and its true number
+pub record Sound (p : Permutation) : Type 0 where
+  pub small : p .length ≤ 1024
+  pub permutation : IsPermutation (p .length) (listOf p)
+  pub past : (v : ℕ) → p .length ≤ v → getD (p .entries) v 0 ≡ 0
+  pub fixed-true : p .fixed ≡ fixedPoints (listOf p)
+
+-- a record with the true number in place of its own
+abbrev pub corrected : Permutation → Permutation
+corrected p = record { length = p .length; entries = p .entries; fixed = fixedPoints (listOf p) }
+
 -- 01: with records handed in 1 and 6 of each, first record first, then 14 or 15
 abbrev pub exchangeAsks : Permutation → ℕ → ℕ → List Question
 exchangeAsks p i j = questionsOf p ++ (ask 14 0 (ltb i (p .length) && ltb j (p .length)) ∷ [])
@@ -50,13 +62,17 @@ fromListAsks es = ask 1 0 (leb (length es) 1024) ∷ askEach 6 (goodEntry (lengt
 
 -- ---- what a call comes to
 
+-- an answer, and a record
+abbrev pub reply : Answer → Permutation → Reply
+reply a p = record { answer = a; permutation = p }
+
 abbrev pub recordAfter : Verdict → Permutation → Permutation → Permutation
 recordAfter allYes result handed = result
 recordAfter (noAt q p) result handed = handed
 
 -- a call that asks, then reports `count` and gives `result`; refused, it gives back what it was handed
 unfoldable pub replied : List Question → ℕ → Permutation → Permutation → Reply
-replied qs count result handed = record { answer = answerOf (firstNo qs) count; permutation = recordAfter (firstNo qs) result handed }
+replied qs count result handed = reply (answerOf (firstNo qs) count) (recordAfter (firstNo qs) result handed)
 
 -- 01: fresh. Handed no record, it gives the record of length 0 where it is refused
 abbrev pub identityCall : ℕ → Reply

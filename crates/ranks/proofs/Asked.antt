@@ -8,10 +8,9 @@ use lib.ListN.{length, drop}
 use borrow.Author.Tests.{leb-true, ltb-true, eqb-true, le-leb, lt-leb, lt-ltb, le-ltb, eq-eqb, ne-eqb}
 use Rattle.answers.specs.declared.Answer.{Answer}
 use Rattle.answers.specs.Answers.{refusal, accepted}
-use Rattle.answers.specs.Questions.{allYes, noAt, firstNo}
+use Rattle.answers.specs.Questions.{allYes, noAt, firstNo, Numbered}
 use Rattle.answers.specs.Buffers.{overlay}
 use Rattle.answers.proofs.Questions.{each-yes, yes-each}
-use Rattle.answers.proofs.Outcomes.{Numbered}
 use Rattle.answers.proofs.Buffers.{overlay-front, overlay-whole}
 use Rattle.counts.specs.Counts.{W, E}
 use Rattle.network.specs.Wiring.{paper}

@@ -9,10 +9,10 @@ use lib.ListN.{length, take, set, length-set}
 use lib.Seq.{take-suc-set}
 use Rattle.answers.specs.Questions.{Question, allYes, noAt, firstNo}
 use Rattle.answers.proofs.Questions.{asked-both, asked-first, never}
-use Rattle.numbers.specs.Numbers.{NumberForm}
+use Rattle.numbers.specs.Numbers.{NumberForm, Reads}
 use Rattle.numbers.specs.declared.ReadNumber.{ReadNumber}
 use Rattle.numbers.specs.declared.ReadNumber.the-variants.{Number, Refused}
-use Rattle.numbers.proofs.Numbers.{Reads, got-refused}
+use Rattle.numbers.proofs.Numbers.{got-refused}
 use Rattle.rows.specs.Rows.{numbersQuestions, numbersAt, placePast, Row}
 use Rattle.rows.proofs.Rows.{place-more, numbers-more}
 

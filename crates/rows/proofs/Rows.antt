@@ -5,11 +5,11 @@ use mathlib.Core.List.{List, [], _∷_, _++_, append-assoc, append-nil}
 use Prim.Native.Nat.{ℕ, zero, suc, _+_, _*_, _≤_, _<_}
 use native.Mathlib.Omega.{arith}
 use lib.ListN.{length, length-append}
-use Rattle.answers.specs.Questions.{allYes, firstNo}
+use Rattle.answers.specs.Questions.{allYes, firstNo, Numbered}
 use Rattle.answers.proofs.Questions.{asked-both}
-use Rattle.answers.proofs.Outcomes.{Numbered, numbered-both}
-use Rattle.numbers.specs.Numbers.{NumberForm}
-use Rattle.numbers.proofs.Numbers.{Reads, ReadBack}
+use Rattle.answers.proofs.Outcomes.{numbered-both}
+use Rattle.numbers.specs.Numbers.{NumberForm, Reads}
+use Rattle.numbers.proofs.Numbers.{ReadBack}
 use Rattle.rows.specs.Rows.{numbersBytes, numbersQuestions, numbersAt, placePast, Fourteens}
 
 module _ (form : NumberForm) (input : List ℕ) where

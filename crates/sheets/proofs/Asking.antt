@@ -11,11 +11,11 @@ use borrow.Author.Tests.{le-leb, lt-leb, eq-eqb, ne-eqb, leb-true}
 use Rattle.answers.specs.Questions.{Question, ask, Verdict, allYes, noAt, firstNo}
 use Rattle.answers.proofs.Questions.{asked-yes, asked-no, asked-both, asked-first, passed, both-pass}
 use Rattle.counts.specs.Counts.{W}
-use Rattle.numbers.specs.Numbers.{numberQuestions, numberAt, sevens}
+use Rattle.numbers.specs.Numbers.{numberQuestions, numberAt, sevens, Reads}
 use Rattle.numbers.specs.Reading.{meaning, readOf}
 use Rattle.numbers.specs.declared.ReadNumber.{ReadNumber}
 use Rattle.numbers.specs.declared.ReadNumber.the-variants.{Number, Refused}
-use Rattle.numbers.proofs.Numbers.{Reads, refused, Got, got-number, got-refused}
+use Rattle.numbers.proofs.Numbers.{refused, Got, got-number, got-refused}
 use Rattle.rows.specs.Rows.{numbersQuestions, numbersAt, placePast, Row}
 use Rattle.rows.proofs.Reading.{row-refused, RowOf}
 use Rattle.sheets.specs.Sheet.{numbersFor}

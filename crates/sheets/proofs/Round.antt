@@ -19,15 +19,16 @@ use Rattle.answers.proofs.Outcomes.{accepted-when, numbered-both}
 use Rattle.bits.specs.Bits.{isBit, Bits}
 use Rattle.bits.proofs.Bytes.{bits-all, all-bits}
 use Rattle.counts.specs.Counts.{W}
-use Rattle.numbers.specs.Numbers.{numberBytes, numberQuestions, sevens}
+use Rattle.numbers.specs.Numbers.{numberBytes, numberQuestions, sevens, Reads}
 use Rattle.numbers.specs.declared.ReadNumber.the-variants.{Number}
-use Rattle.numbers.proofs.Numbers.{Reads, numbered, number-back}
+use Rattle.numbers.proofs.Numbers.{numbered, number-back}
 use Rattle.rows.specs.Rows.{numbersBytes, numbersQuestions, numbersAt, placePast}
 use Rattle.rows.proofs.Rows.{Back, row-back, numbered-row}
 use Rattle.rows.proofs.Reading.{RowOf}
 use Rattle.sheets.specs.Sheet.{numbersFor, fourteens, sheet}
 use Rattle.sheets.specs.Reading.{bitsIn, allZero}
-use Rattle.sheets.specs.Calls.{writeQuestions, writeSheet, placesAt, placesIn, fourteensAt, headQuestions, bodyQuestions, readQuestions, readSheet}
+use Rattle.sheets.specs.Calls.{writeQuestions, writeSheet, Writable, written}
+use Rattle.sheets.specs.Calls.{placesAt, placesIn, fourteensAt, headQuestions, bodyQuestions, readQuestions, readSheet}
 use Rattle.sheets.proofs.Unpacking.{fourteens-fit, fourteens-length, setting-back, fill-back}
 use Rattle.sheets.proofs.Asking.{head-done, body-done}
 use Rattle.sheets.proofs.Calls.{write-passes, write-accepted, read-passes, read-count, read-bits, read-accepted}
@@ -102,12 +103,6 @@ module _ (n : ℕ) (bits : List ℕ) (few : n ≤ 1024) (count : length bits ≡
 
 -- ---- when write sheet is accepted
 
-pub record Writable (n : ℕ) (bits out : List ℕ) : Type 0 where
-  pub few : n ≤ 1024
-  pub count : length bits ≡ W n
-  pub areBits : Bits bits
-  pub room : length (sheet n bits) ≤ length out
-
 pub write-accepts :
     (n : ℕ) (bits out : List ℕ)
     → Writable n bits out
@@ -150,9 +145,6 @@ read-only input buffer e =
     e
 
 -- ---- the round trip: what an accepted write wrote is read back as n and those bits, into any buffer with room for them
-
-abbrev pub written : Outcome → List ℕ
-written o = take (o .answer .count) (o .buffer)
 
 pub round-trip :
     (n : ℕ) (bits out buffer : List ℕ)

@@ -1,12 +1,13 @@
 -- The two calls on sheets, whole (01, 'The questions': Write sheet, Read sheet).
 -- Assumes nothing: these are definitions.
+use mathlib.Core.Path.{_≡_}
 use mathlib.Core.List.{List, [], _∷_, _++_}
-use Prim.Native.Nat.{ℕ, _-_}
+use Prim.Native.Nat.{ℕ, _-_, _≤_}
 use lib.Dec.{leb, eqb}
 use lib.ListN.{length, take, drop}
 use Rattle.answers.specs.Questions.{Question, ask, askEach, firstNo}
 use Rattle.answers.specs.Outcomes.{Outcome, settled}
-use Rattle.bits.specs.Bits.{isBit}
+use Rattle.bits.specs.Bits.{isBit, Bits}
 use Rattle.counts.specs.Counts.{W}
 use Rattle.numbers.specs.Numbers.{numberQuestions, numberAt, sevens}
 use Rattle.numbers.specs.declared.ReadNumber.{ReadNumber}
@@ -27,6 +28,17 @@ writeQuestions n bits room =
 -- the sheet over the front of the output, and as count its bytes
 unfoldable pub writeSheet : ℕ → List ℕ → List ℕ → Outcome
 writeSheet n bits out = settled (firstNo (writeQuestions n bits (length out))) (length (sheet n bits)) (sheet n bits) out
+
+-- when it is accepted: at most 1,024 places, a 0 or a 1 for each switch, and room for the sheet
+pub record Writable (n : ℕ) (bits out : List ℕ) : Type 0 where
+  pub few : n ≤ 1024
+  pub count : length bits ≡ W n
+  pub areBits : Bits bits
+  pub room : length (sheet n bits) ≤ length out
+
+-- the bytes that it wrote
+abbrev pub written : Outcome → List ℕ
+written o = take (o .answer .count) (o .buffer)
 
 -- ---- read sheet: form (8, 9, 10), n (8, 9, 1), 4, each number (8, 9), 11, 12
 

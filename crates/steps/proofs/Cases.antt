@@ -14,9 +14,11 @@ use Rattle.network.specs.Network.{network, networkIn, switchCount}
 use Rattle.network.specs.Move.{switch}
 use Rattle.network.specs.Log.{Entry, entry, words}
 use Rattle.steps.specs.Sweeps.{look, seek, store, each, act}
+use Rattle.steps.specs.State.{start}
 use Rattle.steps.specs.Steps.{step1, step2, step3, step4, step5, step6}
 use Rattle.steps.specs.Sequence.{rounds, inputEntries, entriesOf, setEntries}
 use Rattle.steps.specs.Run.{subnetworks, runEntry, runEntries, runSet, settingOf}
+use Rattle.steps.specs.ByLookup.{runLooked, runAllLooked, runByLookup}
 
 -- an order, its setting in the paper's wiring, and in the neighbour wiring
 record Case : Type 0 where
@@ -49,6 +51,14 @@ ran w order = settingOf w order (setEntries w (length order))
 cases-run : map (λ (c : Case). given (c .order) (ran paper (c .order)) (ran neighbour (c .order))) cases ≡ cases
 unfolding firstBadFrom W byHalves network networkIn switchCount switch look seek store each act step1 step2 step3 step4 step5 step6 rounds inputEntries entriesOf setEntries subnetworks runEntry runEntries runSet given cases ran
 cases-run = refl
+
+-- .. and by 01's rule: the bits of the networks that the entries name
+looked : Wiring → List ℕ → List ℕ
+looked w order = runByLookup w (length order) (setEntries w (length order)) (start order) .bits
+
+cases-looked : map (λ (c : Case). given (c .order) (looked paper (c .order)) (looked neighbour (c .order))) cases ≡ cases
+unfolding firstBadFrom W byHalves network networkIn switchCount switch look seek store each act step1 step2 step3 step4 step5 step6 rounds inputEntries entriesOf setEntries subnetworks runLooked runAllLooked runByLookup given cases looked
+cases-looked = refl
 
 -- the entries of kind 5 for nine places: each network of two places or more once, by its start, size and first bit
 halvings : List Entry → List Entry

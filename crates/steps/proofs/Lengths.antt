@@ -1,4 +1,4 @@
--- The setter logs E n entries, four words each.
+-- The setter logs E n entries.
 -- Assumes nothing.
 use mathlib.Core.Path.{_≡_, refl, sym, ap, _∙_}
 use mathlib.Core.Bool.{true, false}
@@ -12,8 +12,7 @@ use Rattle.counts.specs.Counts.{up, E}
 use Rattle.counts.proofs.Rule.{E-none, E-two, E-more}
 use Rattle.network.specs.Wiring.{Wiring}
 use Rattle.network.specs.Network.{Network}
-use Rattle.network.specs.Log.{entryWords, words}
-use Rattle.network.proofs.Shape.{Sized, none, some, sized, length-words}
+use Rattle.network.proofs.Shape.{Sized, none, some, sized}
 use Rattle.steps.specs.Sequence.{rounds, inputEntries, entriesOf, setEntries}
 
 pub length-rounds : (i o m b : ℕ) → length (rounds i o m b) ≡ 3 * i
@@ -50,6 +49,3 @@ module _ (w : Wiring) where
   pub length-setEntries : (n : ℕ) → length (setEntries w n) ≡ E n
   unfolding setEntries
   length-setEntries n = length-entries (sized n) (λ i. i) 0
-
-  pub length-setWords : (n : ℕ) → length (words (setEntries w n)) ≡ entryWords * E n
-  length-setWords n = length-words (setEntries w n) ∙ ap (λ e. entryWords * e) (length-setEntries n)

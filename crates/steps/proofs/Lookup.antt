@@ -11,20 +11,12 @@ use Rattle.network.specs.Wiring.{Wiring, Lawful, Side}
 use Rattle.network.specs.Network.{Network, split, network, switchCount, down}
 use Rattle.network.proofs.Shape.{Sized, none, some, sized}
 use Rattle.steps.specs.State.{Subnetwork}
-use Rattle.steps.specs.Run.{subnetworks}
+use Rattle.steps.specs.Run.{subnetworks, OneOf, Single}
 use Rattle.steps.proofs.Places.{Unlike, sizeOf, half-smaller, sides-unlike, half-unlike, real}
-
--- N is one of the networks Ns
-abbrev pub OneOf : List Subnetwork → Subnetwork → Type 0
-OneOf Ns N = List·Memᴰ N Ns
 
 -- each network of Ms is one of Ns
 unfoldable pub Held : List Subnetwork → List Subnetwork → Type 0
 Held Ms Ns = (N : Subnetwork) → OneOf Ms N → OneOf Ns N
-
--- no two of Ns have one start and one size
-unfoldable pub Single : List Subnetwork → Type 0
-Single Ns = (M N : Subnetwork) → OneOf Ns M → OneOf Ns N → M .place 0 ≡ N .place 0 → M .size ≡ N .size → M ≡ N
 
 -- N starts at one of m places and has at most m
 record Within (m : ℕ) (place : ℕ → ℕ) (N : Subnetwork) : Type 0 where

@@ -1,9 +1,9 @@
 -- The fourth words of the setter's log (02, F-7): each entry is of a network within the whole, and has that network's first bit. So
--- running with the fourth word is running with the bits of the network that is looked up.
+-- 01's rule of running, with the bits of the network that is looked up (specs/ByLookup), comes to the same as the fourth words.
 -- Assumes nothing.
 use mathlib.Core.Path.{_≡_, refl, sym, ap, _∙_}
 use mathlib.Core.Bool.{Bool, true, false, cond}
-use mathlib.Core.List.{List, [], _∷_, _++_, Memᴰ·append-left, Memᴰ·append-right, List·Memᴰ·head, List·Memᴰ·tail}
+use mathlib.Core.List.{List, [], _∷_, _++_, map, Memᴰ·append-left, Memᴰ·append-right, List·Memᴰ·head, List·Memᴰ·tail}
 use Prim.Native.Nat.{ℕ, zero, suc, _+_, _-_, _<_}
 use native.Mathlib.Omega.{arith}
 use lib.Dec.{eqb, ltb}
@@ -12,13 +12,13 @@ use borrow.Author.Tests.{eqb-true}
 use Rattle.counts.specs.Counts.{up}
 use Rattle.network.specs.Wiring.{Wiring, Lawful}
 use Rattle.network.specs.Network.{Network, wires, split, network, switchCount}
-use Rattle.network.specs.Log.{Entry, entry}
-use Rattle.network.proofs.Shape.{none-such}
+use Rattle.network.specs.Log.{Entry, entry, none-such}
 use Rattle.steps.specs.State.{State, Subnetwork}
 use Rattle.steps.specs.Steps.{step}
 use Rattle.steps.specs.Sequence.{rounds, inputEntries, entriesOf, setEntries}
-use Rattle.steps.specs.Run.{subnetworks, names, Of, withBits, runEntry, runEntries, runSet}
-use Rattle.steps.proofs.Lookup.{OneOf, Held, Single, halfAt, inTop, only-one}
+use Rattle.steps.specs.Run.{subnetworks, OneOf, Single, names, Of, withBits, runEntry, runEntries, runSet}
+use Rattle.steps.specs.ByLookup.{runLooked, runAllLooked, runByLookup}
+use Rattle.steps.proofs.Lookup.{Held, halfAt, inTop, only-one}
 use Rattle.steps.proofs.Running.{true-both}
 
 -- ---- positions
@@ -90,35 +90,41 @@ module _ (w : Wiring) (L : Lawful w) where
 
   -- ---- 01's rule
 
-  -- entries run with the bits of the network that is looked up: no fourth word is read
-  unfoldable pub runLooked : List Subnetwork → Entry → State → State
-  runLooked [] e x = x
-  runLooked (N ∷ Ns) e x = cond (names e N) (step w N (e .kind) x) (runLooked Ns e x)
+  -- it reads no fourth word: others in their place change nothing
+  same-looked : (Ns : List Subnetwork) (e : Entry) (b : ℕ) (x : State)
+      → runLooked w Ns (entry (e .kind) (e .first) (e .second) b) x ≡ runLooked w Ns e x
+  unfolding runLooked
+  same-looked [] e b x = refl
+  same-looked (N ∷ Ns) e b x = ap (cond (names e N) (step w N (e .kind) x)) (same-looked Ns e b x)
 
-  unfoldable pub runAllLooked : List Subnetwork → List Entry → State → State
-  runAllLooked Ns [] x = x
-  runAllLooked Ns (e ∷ es) x = runAllLooked Ns es (runLooked Ns e x)
+  pub fourth-unread : (Ns : List Subnetwork) (other : Entry → ℕ) (es : List Entry) (x : State)
+      → runAllLooked w Ns (map (λ (e : Entry). entry (e .kind) (e .first) (e .second) (other e)) es) x ≡ runAllLooked w Ns es x
+  unfolding runAllLooked
+  fourth-unread Ns other [] x = refl
+  fourth-unread Ns other (e ∷ es) x =
+      fourth-unread Ns other es (runLooked w Ns (entry (e .kind) (e .first) (e .second) (other e)) x)
+      ∙ ap (runAllLooked w Ns es) (same-looked Ns e (other e) x)
 
   looked : (Ns : List Subnetwork) (e : Entry) (x : State) → ((M : Subnetwork) → OneOf Ns M → names e M ≡ true → e .bit ≡ M .bit)
-      → runEntry w Ns e x ≡ runLooked Ns e x
+      → runEntry w Ns e x ≡ runLooked w Ns e x
   unfolding runEntry runLooked
   looked [] e x h = refl
   looked (M ∷ Ms) e x h = go (names e M) refl (looked Ms e x (λ K k. h K (List·Memᴰ·tail k)))
     where
-      go : (b : Bool) → names e M ≡ b → runEntry w Ms e x ≡ runLooked Ms e x
+      go : (b : Bool) → names e M ≡ b → runEntry w Ms e x ≡ runLooked w Ms e x
           → cond (names e M) (step w (withBits e M) (e .kind) x) (runEntry w Ms e x)
-          ≡ cond (names e M) (step w M (e .kind) x) (runLooked Ms e x)
+          ≡ cond (names e M) (step w M (e .kind) x) (runLooked w Ms e x)
       go true q r =
           rw q
           (ap (λ b. step w (record { place = M .place; size = M .size; bit = b }) (e .kind) x) (h M (List·Memᴰ·head refl) q))
       go false q r = rw q r
 
   all-looked : (Ns : List Subnetwork) → Single Ns → {es : List Entry} → Each Ns es → (x : State)
-      → runEntries w Ns es x ≡ runAllLooked Ns es x
+      → runEntries w Ns es x ≡ runAllLooked w Ns es x
   unfolding runEntries runAllLooked Single
   all-looked Ns S empty x = refl
   all-looked Ns S (also {e = e} {es = es} p a) x =
-      rw (looked Ns e x same) (all-looked Ns S a (runLooked Ns e x))
+      rw (looked Ns e x same) (all-looked Ns S a (runLooked w Ns e x))
     where
       same : (M : Subnetwork) → OneOf Ns M → names e M ≡ true → e .bit ≡ M .bit
       same M m q =
@@ -127,8 +133,7 @@ module _ (w : Wiring) (L : Lawful w) where
           (eqb-true (M .place 0) (e .first) (h .0) ∙ p .starts) (eqb-true (M .size) (e .second) (h .1) ∙ p .many) in
           p .begins ∙ ap (λ (K : Subnetwork). K .bit) (sym it)
 
-  -- running the setter's entries reads nothing from a fourth word that the lookup does not know
-  pub set-by-lookup : (n : ℕ) (x : State)
-      → runSet w n (setEntries w n) x ≡ runAllLooked (subnetworks w (network n) (λ i. i) 0) (setEntries w n) x
-  unfolding runSet
+  -- the fourth words of the setter's entries tell nothing that the lookup does not know
+  pub set-by-lookup : (n : ℕ) (x : State) → runSet w n (setEntries w n) x ≡ runByLookup w n (setEntries w n) x
+  unfolding runSet runByLookup
   set-by-lookup n x = all-looked (subnetworks w (network n) (λ i. i) 0) (only-one w L n) (each-set n) x

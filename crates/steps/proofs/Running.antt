@@ -17,9 +17,9 @@ use Rattle.network.proofs.Shape.{Sized, none, some, sized}
 use Rattle.steps.specs.State.{State, Subnetwork}
 use Rattle.steps.specs.Steps.{step, step4, step5}
 use Rattle.steps.specs.Sequence.{rounds, inputEntries, entriesOf, setEntries}
-use Rattle.steps.specs.Run.{subnetworks, names, withBits, runEntry, runEntries, runSet}
+use Rattle.steps.specs.Run.{subnetworks, OneOf, Single, names, withBits, runEntry, runEntries, runSet}
 use Rattle.steps.specs.Fold.{roundsOf, inputSteps, setNet}
-use Rattle.steps.proofs.Lookup.{OneOf, Held, Single, halfAt, inTop, only-one}
+use Rattle.steps.proofs.Lookup.{Held, halfAt, inTop, only-one}
 
 eqb-itself : (n : ℕ) → eqb n n ≡ true
 eqb-itself n = eq-eqb n n refl

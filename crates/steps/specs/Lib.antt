@@ -3,5 +3,6 @@ pub mod State
 pub mod Steps
 pub mod Sequence
 pub mod Run
+pub mod ByLookup
 pub mod Fold
 pub mod Setting

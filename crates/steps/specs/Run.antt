@@ -22,6 +22,14 @@ subnetworks w (split m top bottom) place bit =
     ∷ (subnetworks w top (λ i. place (w .enc (up m) (i, false))) (bit + (up m - 1))
     ++ subnetworks w bottom (λ i. place (w .enc (up m) (i, true))) (bit + ((up m - 1) + switchCount top)))
 
+-- N is one of the networks Ns
+abbrev pub OneOf : List Subnetwork → Subnetwork → Type 0
+OneOf Ns N = List·Memᴰ N Ns
+
+-- 'there is only one': no two of Ns have one start and one size
+unfoldable pub Single : List Subnetwork → Type 0
+Single Ns = (M N : Subnetwork) → OneOf Ns M → OneOf Ns N → M .place 0 ≡ N .place 0 → M .size ≡ N .size → M ≡ N
+
 -- does an entry name this network?
 abbrev pub names : Entry → Subnetwork → Bool
 names e N = eqb (N .place 0) (e .first) && eqb (N .size) (e .second)
@@ -29,7 +37,7 @@ names e N = eqb (N .place 0) (e .first) && eqb (N .size) (e .second)
 -- an entry of one of some networks: it has that network's start and size, and the position of its first bit
 pub record Of (Ns : List Subnetwork) (e : Entry) : Type 0 where
   pub network : Subnetwork
-  pub one : List·Memᴰ network Ns
+  pub one : OneOf Ns network
   pub starts : e .first ≡ network .place 0
   pub many : e .second ≡ network .size
   pub begins : e .bit ≡ network .bit

@@ -16,7 +16,6 @@ use Rattle.network.proofs.Shape.{Sized, none, some, sized, count-of}
 use Rattle.permutation.specs.Permutations.{IsPermutation}
 use Rattle.permutation.proofs.Tables.{getD-blank}
 use Rattle.canonical.specs.Rule.{Canonical}
-use Rattle.canonical.proofs.Only.{canonical-unique}
 use Rattle.steps.specs.State.{State, Subnetwork, start}
 use Rattle.steps.specs.Steps.{step5}
 use Rattle.steps.specs.Sequence.{setEntries}
@@ -25,7 +24,7 @@ use Rattle.steps.specs.Fold.{inputSteps, setNet}
 use Rattle.steps.proofs.Places.{Unlike, half-unlike}
 use Rattle.steps.proofs.Running.{run-is-fold}
 use Rattle.steps_canonical.proofs.Parts.{part}
-use Rattle.steps_canonical.specs.Table.{Holding}
+use Rattle.steps_canonical.specs.Table.{Begins, Holding}
 use Rattle.steps_canonical.proofs.Table.{framed-same}
 use Rattle.steps_canonical.proofs.Level.{Sets, halfOf, orderIn, half-order, top-holding, bottom-holding, level}
 
@@ -67,15 +66,6 @@ module _ {w : Wiring} (L : Lawful w) where
       (orderIn L N U two o O x H true) (half-order L N U two o O x H true)
       from-top (bottom-holding L N U two o O x H top from-top above) in
       rw (count-of t) (level L N U two o O x H top from-top above bottom from-bottom below)
-
--- a table that holds the order, with no pair marked and with room; the bits and trails, and f, c, g, s, are any
-pub record Begins (n : ℕ) (o : List ℕ) (x : State) : Type 0 where
-  pub values-room : n ≤ length (x .values)
-  pub trails-room : n ≤ length (x .trails)
-  pub marks-room : up n ≤ length (x .marks)
-  pub bits-count : length (x .bits) ≡ W n
-  pub values-are : (i : ℕ) → i < n → getD (x .values) i 0 ≡ getD o i 0
-  pub unmarked : (i : ℕ) → getD (x .marks) i 0 ≡ 0
 
 -- so the table starts
 pub start-begins : (n : ℕ) (o : List ℕ) → IsPermutation n o → Begins n o (start o)
@@ -119,11 +109,3 @@ module _ {w : Wiring} (L : Lawful w) (n : ℕ) (o : List ℕ) (O : IsPermutation
   setting-canonical =
       subst (λ j. Canonical w (network n) o (runSet w j (setEntries w n) (start o) .bits)) (sym (O .whole))
       (rw (run-is-fold w L n (start o)) (fold-canonical (start o) (start-begins n o O)))
-
-  -- there is no other
-  pub setting-only : (bits : List ℕ) → Canonical w (network n) o bits → bits ≡ settingOf w o (setEntries w n)
-  setting-only bits C = canonical-unique L n o O bits (settingOf w o (setEntries w n)) C setting-canonical
-
-  -- so the steps leave it in any table that holds the order: nothing else that stands there matters
-  pub fold-setting : (x : State) → Begins n o x → setNet w (network n) (λ i. i) 0 x .bits ≡ settingOf w o (setEntries w n)
-  fold-setting x B = setting-only (setNet w (network n) (λ i. i) 0 x .bits) (fold-canonical x B)

@@ -1,4 +1,4 @@
--- What the setter's table has to be before a network's steps.
+-- What the setter's table has to be before all steps, and before a network's.
 -- Assumes nothing: these are definitions.
 use mathlib.Core.Path.{_≡_}
 use mathlib.Core.List.{List}
@@ -7,6 +7,15 @@ use lib.ListN.{length, getD}
 use Rattle.counts.specs.Counts.{up, W}
 use Rattle.permutation.specs.Permutations.{IsPermutation}
 use Rattle.steps.specs.State.{State, Subnetwork}
+
+-- the whole table: it holds the order, with no pair marked and with room; the bits and trails, and f, c, g, s, are any
+pub record Begins (n : ℕ) (o : List ℕ) (x : State) : Type 0 where
+  pub values-room : n ≤ length (x .values)
+  pub trails-room : n ≤ length (x .trails)
+  pub marks-room : up n ≤ length (x .marks)
+  pub bits-count : length (x .bits) ≡ W n
+  pub values-are : (i : ℕ) → i < n → getD (x .values) i 0 ≡ getD o i 0
+  pub unmarked : (i : ℕ) → getD (x .marks) i 0 ≡ 0
 
 -- there is room for the network's places, pairs and bits; no pair is marked; its places hold the order
 pub record Holding (N : Subnetwork) (o : List ℕ) (x : State) : Type 0 where
