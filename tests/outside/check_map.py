@@ -1,7 +1,8 @@
 #!/usr/bin/env python3
 """Every name in docs/MAP.md exists: a definition or law in the crate's specs/ or proofs/, a function in its src/, an edit in its
-must-fail/. A name belongs to the crate named last before it in its cell; one before any crate may stand anywhere. The files of the
-reading list have as many lines as it says."""
+must-fail/. A name belongs to the crate named last before it in its cell; one before any crate may stand anywhere. In `File.Record.field`,
+and in `File.Name` (`field`, ..), the field is one of that record, or, where Name is a theorem, of a record of that file. The files
+of the reading list have as many lines as it says."""
 import pathlib
 import re
 import sys
@@ -23,8 +24,19 @@ def text(path):
 
 def said_in(paths, name):
     """Whether some file defines the name: at the start of a line, behind keywords, or as a field."""
-    form = re.compile(r'^\s*(?:(?:abbrev|unfoldable|pub|record|data|fn|struct|enum|const|extern "C")\s+)*' + re.escape(name) + r'(?![\w-])', re.M)
+    keywords = r'(?:(?:abbrev|unfoldable|pub|record|data|fn|struct|enum|const|extern "C")\s+)*'
+    form = re.compile(r'^\s*' + keywords + re.escape(name) + r'(?![\w-])', re.M)
     return any(form.search(text(p)) for p in paths)
+
+
+def has_field(paths, record, field):
+    """Whether the record, or where it is none some record, of these files has the field (of a data type: the case)."""
+    blocks = {}
+    for path in paths:
+        for name, block in re.findall(r'^(?:pub )?(?:record|data) ([\w-]+).*\n((?:[ \t].*\n|\n)*)', text(path), re.M):
+            blocks[name] = block
+    return any(re.search(rf'^\s+(?:pub )?{re.escape(field)} :', block, re.M)
+               for name, block in blocks.items() if name == record or record not in blocks)
 
 
 def exists(crate, name):
@@ -37,7 +49,7 @@ def exists(crate, name):
     parts = name.split('.')
     if len(parts) > 1:
         logic = [p for p in logic if p.stem == parts[0]]
-        return bool(logic) and all(said_in(logic, part) for part in parts[1:])
+        return bool(logic) and said_in(logic, parts[1]) and all(has_field(logic, parts[1], part) for part in parts[2:])
     code = files(crate, 'src', '.rt')
     if name.endswith('_*'):
         return any(name[:-1] in text(p) for p in code)
@@ -58,6 +70,11 @@ def main():
                 if not path.is_file() or len(text(path).splitlines()) != int(lines):
                     missing.append((number, f'{name} with {lines} lines'))
             cell = re.sub(r'`\w+/specs/\w+\.antt` \d+', '', cell)
+            for crate, file, name, fields in re.findall(r'\b(\w+) `(\w+)\.([\w-]+)` \((?:field )?((?:`[\w-]+`(?:, )?)+)\)', cell):
+                for field in re.findall(r'`([^`]+)`', fields):
+                    paths = [p for part in ('specs', 'proofs') for p in files(crate, part, '.antt') if p.stem == file]
+                    if crate in crates and not has_field(paths, name, field):
+                        missing.append((number, f'{crate} {file}.{name} with the field {field}'))
             crate = None
             for token in re.findall(r'`[^`]+`|[A-Za-z_]\w*', cell):
                 name = token.strip('`')

@@ -28,7 +28,8 @@ pub record FromTheMiddle (c : Call) : Type 0 where
   -- the position of each entry
   pub positions : (e : ℕ) → e < countOf c
       → Positioned (wiringOfCall c) (described c .kind) (described c .places) e (entryAt (written c) e)
-  -- the log cut behind its first i entries: running what follows, by its own words, on what these leave is running the whole
+  -- the log cut behind its first i entries: running what follows on what these leave is running the whole. That holds of any running
+  -- that goes entry by entry; that what follows names its own bits is `positions`, and that running reads them there `Logs.replays`
   pub goes-on : (i : ℕ)
       → described c .act (entries (drop (entryWords * i) (written c)))
       (described c .act (entries (take (entryWords * i) (written c))) (described c .begun))

@@ -1,1 +1,2 @@
-// The claims of the whole: demands 1, 2 and 3, and the month table, over the outcomes of the calls. Definitions and theorems only.
+// The claims of the whole, over the outcomes of the calls: demands 1, 2 and 3, the month table, and what requests of 02 claim of calls
+// (the same report, listed orders, the converter, positions). Definitions and theorems only.
