@@ -23,7 +23,7 @@ fn main() {
     let Argument::Number(width) = last else {
         return;
     };
-    let mut sheet = [0u8; sheets::SHEET_ROOM];
+    let mut sheet = sheets::input_buffer();
     let got = cmd_console::read_named(Program::Mix, 1, &mut sheet);
     if got.failed {
         return;
