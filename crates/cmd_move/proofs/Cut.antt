@@ -1,17 +1,15 @@
 -- The programs read at most 1,321 bytes of a sheet, and do with them what they would do with the whole.
 -- Assumes nothing.
-use mathlib.Core.Path.{_≡_, refl, sym, ap, _∙_}
+use mathlib.Core.Path.{_≡_}
 use mathlib.Core.List.{List}
-use Prim.Native.Nat.{ℕ, _*_, _≤_, _<_}
-use native.Mathlib.Omega.{arith}
-use native.Mathlib.Decide.{decLt}
+use Prim.Native.Nat.{ℕ, _*_}
 use lib.ListN.{length, take}
-use lib.Seq.{take-all}
-use Rattle.answers.specs.Questions.{Question, Verdict, allYes, noAt, firstNo}
+use Rattle.answers.specs.Questions.{noAt, firstNo}
 use Rattle.answers.proofs.Questions.{asked-first}
 use Rattle.network.specs.Wiring.{paper}
 use Rattle.network.specs.Log.{entryWords}
 use Rattle.network.specs.Blocks.{moved, movedBack}
+use Rattle.rows.proofs.Reach.{enough}
 use Rattle.sheets.specs.Sheet.{sheetRoom}
 use Rattle.sheets.specs.Calls.{placesIn, readQuestions, settingIn}
 use Rattle.sheets.proofs.Cut.{read-cut}
@@ -26,16 +24,10 @@ module _ (direction : ℕ → ℕ → List ℕ → List ℕ → List ℕ) (sheet
       asked-first (readQuestions bytes 9217) (applyQuestions (placesIn bytes) width (length blocks) (settingIn bytes) (entryWords * 9217)) e
 
   move-cut : moveCall direction (take sheetRoom sheet) width blocks ≡ moveCall direction sheet width blocks
-  move-cut = go (decLt (length sheet) sheetRoom)
-    where
-      long : sheetRoom ≤ length sheet → (v : Verdict) → firstNo (readQuestions sheet 9217) ≡ v
-          → moveCall direction (take sheetRoom sheet) width blocks ≡ moveCall direction sheet width blocks
-      long h allYes t = absurd (read-cut sheet 9217 h .refused t)
-      long h (noAt q p) t = rw (stopped (take sheetRoom sheet) (read-cut sheet 9217 h .alike ∙ t), stopped sheet t)
-
-      go : Dec (length sheet < sheetRoom) → moveCall direction (take sheetRoom sheet) width blocks ≡ moveCall direction sheet width blocks
-      go (yes h) = ap (λ bytes. moveCall direction bytes width blocks) (take-all sheetRoom sheet (omega arith))
-      go (no h) = long (omega arith) (firstNo (readQuestions sheet 9217)) refl
+  move-cut =
+      enough (λ bytes. moveCall direction bytes width blocks) sheetRoom sheet (λ long.
+        let C = read-cut sheet 9217 long in
+        rw (stopped (take sheetRoom sheet) (C .first), stopped sheet (C .second)))
 
 pub mix-cut : (sheet : List ℕ) (width : ℕ) (blocks : List ℕ) → mixCall (take sheetRoom sheet) width blocks ≡ mixCall sheet width blocks
 unfolding mixCall

@@ -5,7 +5,9 @@ use mathlib.Core.Bool.{Bool, true, false}
 use mathlib.Core.List.{List, _∷_, _++_}
 use Prim.Native.Nat.{ℕ, zero, suc, _+_, _*_, _≤_, _<_}
 use native.Mathlib.Omega.{arith}
+use native.Mathlib.Decide.{decLt}
 use lib.ListN.{length, take}
+use lib.Seq.{take-all}
 use Rattle.answers.specs.Questions.{Question, ask, Verdict, allYes, noAt, firstNo}
 use Rattle.answers.proofs.Questions.{asked-yes, asked-no, asked-both, asked-first}
 use Rattle.numbers.specs.Numbers.{numberQuestions, NumberAnswer, numberAt, sevens}
@@ -26,6 +28,28 @@ pub one-alike : (q p : ℕ) (b : Bool) (ts us : List Question) → (b ≡ true �
     → firstNo (ask q p b ∷ ts) ≡ firstNo (ask q p b ∷ us)
 one-alike q p true ts us f = asked-yes q p true ts refl ∙ f refl ∙ sym (asked-yes q p true us refl)
 one-alike q p false ts us f = asked-no q p false ts refl ∙ sym (asked-no q p false us refl)
+
+-- two lists of questions that get the same no
+pub record SameNo (qs rs : List Question) : Type 0 where
+  pub number : ℕ
+  pub place : ℕ
+  pub first : firstNo qs ≡ noAt number place
+  pub second : firstNo rs ≡ noAt number place
+
+pub same-no : (qs rs : List Question) → firstNo qs ≡ firstNo rs → (firstNo rs ≡ allYes → ⊥) → SameNo qs rs
+same-no qs rs e n = go (firstNo rs) refl
+  where
+    go : (v : Verdict) → firstNo rs ≡ v → SameNo qs rs
+    go allYes t = absurd (n t)
+    go (noAt q p) t = record { number = q; place = p; first = e ∙ t; second = t }
+
+-- m bytes are enough where they are enough of an input that has as many
+pub enough : {A : Type 0} (F : List ℕ → A) (m : ℕ) (input : List ℕ) → (m ≤ length input → F (take m input) ≡ F input) → F (take m input) ≡ F input
+enough F m input long = go (decLt (length input) m)
+  where
+    go : Dec (length input < m) → F (take m input) ≡ F input
+    go (yes h) = ap F (take-all m input (omega arith))
+    go (no h) = long (omega arith)
 
 -- ---- how far a row reaches
 

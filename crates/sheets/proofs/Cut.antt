@@ -11,9 +11,9 @@ use native.Mathlib.Decide.{decLt}
 use lib.Dec.{leb, eqb}
 use lib.ListN.{length, take, drop, getD}
 use lib.Pow.{pow-mono, pow-pos}
-use lib.Seq.{length-take-le, take-all, getD-append-seam}
+use lib.Seq.{length-take-le, getD-append-seam}
 use borrow.Author.Tests.{lt-leb, leb-true, eqb-true}
-use Rattle.answers.specs.Questions.{Question, ask, Verdict, allYes, noAt, firstNo}
+use Rattle.answers.specs.Questions.{Question, ask, allYes, noAt, firstNo}
 use Rattle.answers.proofs.Questions.{asked-no, passed, both-pass}
 use Rattle.counts.specs.Counts.{W}
 use Rattle.counts.proofs.Most.{switches-few}
@@ -22,7 +22,7 @@ use Rattle.numbers.proofs.Numbers.{value-small}
 use Rattle.numbers.proofs.Reach.{place-near, place-small, asked-alike, read-alike}
 use Rattle.rows.specs.Rows.{numbersQuestions, numbersAt, placePast}
 use Rattle.rows.proofs.Rows.{place-more, numbers-more, numbers-length, numbers-fit}
-use Rattle.rows.proofs.Reach.{both-alike, one-alike, row-near, row-asked, row-numbers, row-place}
+use Rattle.rows.proofs.Reach.{both-alike, one-alike, SameNo, same-no, row-near, row-asked, row-numbers, row-place}
 use Rattle.sheets.specs.Sheet.{numbersFor, sheetRoom}
 use Rattle.sheets.specs.Reading.{bitsIn, allZero}
 use Rattle.sheets.specs.Calls.{formIn, placesAt, placesIn, fourteensAt, headQuestions, bodyQuestions, bitsFrom, readQuestions}
@@ -185,20 +185,14 @@ module _ (input : List ℕ) (room : ℕ) (long : 1321 ≤ length input) where
         let ends = leb-true (length input) end (passed 12 end (leb (length input) end) [] (fill .rest) .here) in
         omega (arith, ends, filled-near input w at few near (fill .here))
 
--- what stays of the verdict on a longer input where only its first 1,321 bytes are read
-pub record Cut (input : List ℕ) (room : ℕ) : Type 0 where
-  pub alike : firstNo (readQuestions (take sheetRoom input) room) ≡ firstNo (readQuestions input room)
-  pub refused : firstNo (readQuestions input room) ≡ allYes → ⊥
-
-pub read-cut : (input : List ℕ) (room : ℕ) → sheetRoom ≤ length input → Cut input room
+-- such an input is refused, and by its first 1,321 bytes alike
+pub read-cut : (input : List ℕ) (room : ℕ) → sheetRoom ≤ length input → SameNo (readQuestions (take sheetRoom input) room) (readQuestions input room)
 unfolding readQuestions cut
 read-cut input room long =
-    record {
-      alike =
-          both-alike (headQuestions (take 1321 input) room) (headQuestions input room)
-          (bodyQuestions (take 1321 input) (W (placesIn (take 1321 input))) (fourteensAt (take 1321 input)))
-          (bodyQuestions input (W (placesIn input)) (fourteensAt input)) (head-alike input room long) (body-alike input room long);
-      refused = λ e.
-          let B = both-pass (headQuestions input room) (bodyQuestions input (W (placesIn input)) (fourteensAt input)) e in
-          surplus input room long (B .first) (B .second);
-    }
+    let part = take 1321 input in
+    let body : List ℕ → List Question = λ bytes. bodyQuestions bytes (W (placesIn bytes)) (fourteensAt bytes) in
+    same-no (headQuestions part room ++ body part) (headQuestions input room ++ body input)
+    (both-alike (headQuestions part room) (headQuestions input room) (body part) (body input) (head-alike input room long) (body-alike input room long))
+    (λ e.
+      let B = both-pass (headQuestions input room) (body input) e in
+      surplus input room long (B .first) (B .second))
