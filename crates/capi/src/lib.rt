@@ -265,7 +265,10 @@ pub extern "C" fn lomuveran_permutation_combine(
         (now (first .entry)) «first_fixed») (recordIn (now (second .entry)) «second_fixed»)) (now (first .entry)) ⌝ }
 {
     let p = capi_values::record_of(first, first_fixed);
-    capi_values::give(p.combine(capi_values::record_of(second, second_fixed)), first)
+    capi_values::give(
+        p.combine(capi_values::record_of(second, second_fixed)),
+        first,
+    )
 }
 
 #[no_mangle]

@@ -21,7 +21,8 @@ word-cut bytes m i h =
     )
 
 -- the whole words of at most m bytes
-words-cut : (bytes : List ℕ) (m : ℕ) → tabulate (wordAt (take m bytes)) (min m (length (take m bytes)) / 4) ≡ tabulate (wordAt bytes) (min m (length bytes) / 4)
+words-cut : (bytes : List ℕ) (m : ℕ)
+    → tabulate (wordAt (take m bytes)) (min m (length (take m bytes)) / 4) ≡ tabulate (wordAt bytes) (min m (length bytes) / 4)
 words-cut bytes m =
     let same : min m (length (take m bytes)) ≡ min m (length bytes) = omega (arith, length-take m bytes) in
     let k = min m (length bytes) / 4 in

@@ -35,7 +35,8 @@ end-near : (input : List ℕ) → countIn input ≤ 1024 → endOf input ≤ 205
 end-near input h = omega (arith, place-near input 0, row-near input (countIn input) (entriesAt input))
 
 end-no : (input : List ℕ) → 2051 ≤ length input → countIn input ≤ 1024 → firstNo (endAsked input) ≡ noAt 12 (endOf input)
-end-no input g h = asked-no 12 (endOf input) (leb (length input) (endOf input)) [] (lt-leb (length input) (endOf input) (omega (arith, end-near input h)))
+end-no input g h =
+    asked-no 12 (endOf input) (leb (length input) (endOf input)) [] (lt-leb (length input) (endOf input) (omega (arith, end-near input h)))
 
 -- ---- an input of 2,051 bytes or more, and its first 2,051
 
@@ -76,13 +77,14 @@ module _ (input : List ℕ) (long : 2051 ≤ length input) where
       ap (λ n. firstNo (ask 1 0 (leb n 1024) ∷ (rowAsked cut ++ endAsked cut))) count
       ∙ one-alike 1 0 (leb (countIn input) 1024) (rowAsked cut ++ endAsked cut) (rowAsked input ++ endAsked input)
       (λ y.
-        let few = leb-true (countIn input) 1024 y in
-        both-alike (rowAsked cut) (rowAsked input) (endAsked cut) (endAsked input) (row few) (λ z. end few))
+      let few = leb-true (countIn input) 1024 y in
+      both-alike (rowAsked cut) (rowAsked input) (endAsked cut) (endAsked input) (row few) (λ z. end few))
 
   form-alike : firstNo (formQuestions cut) ≡ firstNo (formQuestions input)
   unfolding formQuestions cut
   form-alike =
-      both-alike (numberQuestions cut 0) (numberQuestions input 0) (sizeAsked cut) (sizeAsked input) (asked-alike input 2051 long 0 (omega arith))
+      both-alike (numberQuestions cut 0) (numberQuestions input 0) (sizeAsked cut) (sizeAsked input)
+      (asked-alike input 2051 long 0 (omega arith))
       (λ y. size-alike)
 
   surplus : firstNo (formQuestions input) ≡ allYes → ⊥
@@ -91,7 +93,8 @@ module _ (input : List ℕ) (long : 2051 ≤ length input) where
       let h = places-small input e in
       let rest = both-pass (numberQuestions input 0) (sizeAsked input) e .second in
       let row = passed 1 0 (leb (countIn input) 1024) (rowAsked input ++ endAsked input) rest .rest in
-      let end = passed 12 (endOf input) (leb (length input) (endOf input)) [] (both-pass (rowAsked input) (endAsked input) row .second) .here in
+      let last = both-pass (rowAsked input) (endAsked input) row .second in
+      let end = passed 12 (endOf input) (leb (length input) (endOf input)) [] last .here in
       omega (arith, leb-true (length input) (endOf input) end, end-near input h)
 
 -- such an input is refused, and by its first 2,051 bytes alike
@@ -100,6 +103,7 @@ unfolding orderQuestions cut
 order-cut input long =
     let part = take 2051 input in
     same-no (formQuestions part ++ entryQuestions (orderIn part)) (formQuestions input ++ entryQuestions (orderIn input))
-    (both-alike (formQuestions part) (formQuestions input) (entryQuestions (orderIn part)) (entryQuestions (orderIn input)) (form-alike input long)
+    (both-alike (formQuestions part) (formQuestions input) (entryQuestions (orderIn part)) (entryQuestions (orderIn input))
+    (form-alike input long)
     (λ y. absurd (surplus input long y)))
     (λ e. surplus input long (both-pass (formQuestions input) (entryQuestions (orderIn input)) e .first))

@@ -13,5 +13,5 @@ use Rattle.cmd_settings.proofs.Printing.{text-of}
 pub settings-cut : (input : List ℕ) → settingsText (take orderRoom input) ≡ settingsText input
 settings-cut input =
     enough settingsText orderRoom input (λ long.
-      let C = order-cut input long in
-      text-of (take orderRoom input) (C .first) ∙ sym (text-of input (C .second)))
+    let C = order-cut input long in
+    text-of (take orderRoom input) (C .first) ∙ sym (text-of input (C .second)))

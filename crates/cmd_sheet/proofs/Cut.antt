@@ -13,5 +13,5 @@ pub sheet-cut : (input out : List ℕ) → sheetCall (take orderRoom input) out 
 unfolding sheetCall
 sheet-cut input out =
     enough (λ bytes. sheetCall bytes out) orderRoom input (λ long.
-      let C = order-cut input long in
-      rw (C .first, C .second))
+    let C = order-cut input long in
+    rw (C .first, C .second))

@@ -13,5 +13,5 @@ pub show-cut : (sheet out : List ℕ) → showCall (take sheetRoom sheet) out �
 unfolding showCall
 show-cut sheet out =
     enough (λ bytes. showCall bytes out) sheetRoom sheet (λ long.
-      let C = read-cut sheet 9217 long in
-      rw (C .first, C .second))
+    let C = read-cut sheet 9217 long in
+    rw (C .first, C .second))

@@ -78,15 +78,16 @@ module _
     (sheet out before : List ℕ) {bits : List ℕ} {read : ReadNumber} (R : settingOutcome read bits ≡ readSetting sheet before)
     {a : Answer}
   where
-  pub show-refused : {q p : ℕ} → read ≡ Refused q p → a ≡ answerOf read → outcome a out ≡ showCall sheet out
-  unfolding showCall
-  show-refused t e = ends-refused (firstNo (readQuestions sheet 9217)) _ _ out (setting-stops sheet before R t) (e ∙ ap answerOf t) refl
+    pub show-refused : {q p : ℕ} → read ≡ Refused q p → a ≡ answerOf read → outcome a out ≡ showCall sheet out
+    unfolding showCall
+    show-refused t e = ends-refused (firstNo (readQuestions sheet 9217)) _ _ out (setting-stops sheet before R t) (e ∙ ap answerOf t) refl
 
-  pub show-done : {n w r : ℕ} {after : List ℕ} → read ≡ Number n w → Put out 0 (settingText n (take w bits)) r after → a ≡ accepted r
-      → outcome a after ≡ showCall sheet out
-  unfolding showCall
-  show-done {n} {w} t P e =
-      let G = setting-got sheet before R t in
-      let same : settingText n (take w bits) ≡ settingText (placesIn sheet) (settingIn sheet) = rw (setting-there sheet before R t, G .value) in
-      ends-accepted (firstNo (readQuestions sheet 9217)) _ _ out (G .asked)
-      (e ∙ ap accepted (put-length P ∙ ap length same)) (P .buffer ∙ ap (overlay out 0) same)
+    pub show-done : {n w r : ℕ} {after : List ℕ} → read ≡ Number n w → Put out 0 (settingText n (take w bits)) r after → a ≡ accepted r
+        → outcome a after ≡ showCall sheet out
+    unfolding showCall
+    show-done {n} {w} t P e =
+        let G = setting-got sheet before R t in
+        let same : settingText n (take w bits) ≡ settingText (placesIn sheet) (settingIn sheet) =
+        rw (setting-there sheet before R t, G .value) in
+        ends-accepted (firstNo (readQuestions sheet 9217)) _ _ out (G .asked)
+        (e ∙ ap accepted (put-length P ∙ ap length same)) (P .buffer ∙ ap (overlay out 0) same)

@@ -30,15 +30,15 @@ pub place-small : (input : List ℕ) (at : ℕ) → numberAt input at .value < 1
 unfolding numberAt numberQuestions
 place-small input at = go (firstNo (numberQuestions input at)) refl
   where
-    after : (b : Bool) → oneByte input at ≡ b → firstNo (numberQuestions input at) ≡ allYes → valueAt input at < 128 → placeAfter input at ≤ at + 1
+    after : (b : Bool) → oneByte input at ≡ b → firstNo (numberQuestions input at) ≡ allYes → valueAt input at < 128
+        → placeAfter input at ≤ at + 1
     after true t e h = rw (t, placeAfter) (omega arith)
     after false t e h =
         let high = byteAt input (at + 1) in
         let third : List Question = ask 9 at (oneByte input at || ends high) ∷ [] in
         let second : List Question = ask 8 (length input) (oneByte input at || ltb (at + 1) (length input)) ∷ third in
-        let passes : firstNo third ≡ allYes =
-        passed 8 (length input) (oneByte input at || ltb (at + 1) (length input)) third (passed 8 (length input) (ltb at (length input)) second e .rest) .rest
-        in
+        let started = passed 8 (length input) (ltb at (length input)) second e .rest in
+        let passes = passed 8 (length input) (oneByte input at || ltb (at + 1) (length input)) third started .rest in
         let ended : ends high ≡ true = rw t at (passed 9 at (oneByte input at || ends high) [] passes .here) in
         let value : valueAt input at ≡ byteAt input at % 128 + high * 128 = rw (t, valueAt) in
         absurd (omega (arith, value, leb-true 1 high (and-eq-true-iff (leb 1 high) (ltb high 128) .0 ended .0)))

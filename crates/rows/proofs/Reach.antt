@@ -44,7 +44,8 @@ same-no qs rs e n = go (firstNo rs) refl
     go (noAt q p) t = record { number = q; place = p; first = e ∙ t; second = t }
 
 -- m bytes are enough where they are enough of an input that has as many
-pub enough : {A : Type 0} (F : List ℕ → A) (m : ℕ) (input : List ℕ) → (m ≤ length input → F (take m input) ≡ F input) → F (take m input) ≡ F input
+pub enough : {A : Type 0} (F : List ℕ → A) (m : ℕ) (input : List ℕ) → (m ≤ length input → F (take m input) ≡ F input)
+    → F (take m input) ≡ F input
 enough F m input long = go (decLt (length input) m)
   where
     go : Dec (length input < m) → F (take m input) ≡ F input
@@ -64,7 +65,8 @@ module _ (input : List ℕ) (m : ℕ) (long : m ≤ length input) where
   next-alike : (at : ℕ) → at + 1 < m → numberAt (take m input) at .next ≡ numberAt input at .next
   next-alike at h = ap (λ (a : NumberAnswer). a .next) (read-alike input m long at h)
 
-  pub row-asked : (k at : ℕ) → at + 2 * k ≤ m → firstNo (numbersQuestions sevens k (take m input) at) ≡ firstNo (numbersQuestions sevens k input at)
+  pub row-asked : (k at : ℕ) → at + 2 * k ≤ m
+      → firstNo (numbersQuestions sevens k (take m input) at) ≡ firstNo (numbersQuestions sevens k input at)
   unfolding numbersQuestions
   row-asked zero at h = refl
   row-asked (suc k) at h =

@@ -52,10 +52,12 @@ module _ (input : List ℕ) (w at : ℕ) (few : w ≤ 9217) (near : at ≤ 3) wh
           let row = numbersAt sevens 659 input at in
           let v = numberAt input (placePast sevens 658 input at) .value in
           let zero-fill : eqb (getD row 658 0 / 2 ^ (w - 14 * 658)) 0 ≡ true =
-          fill-last row w 658 (numbers-length sevens input 659 at) (omega arith) (omega arith) (numbers-fit sevens input (value-small input) 659 at)
+          fill-last row w 658 (numbers-length sevens input 659 at) (omega arith) (omega arith)
+          (numbers-fit sevens input (value-small input) 659 at)
           ∙ rw all at z
           in
-          let none : v / 2 ^ (w - 14 * 658) ≡ 0 = rw (last-at input 658 at) at (eqb-true (getD row 658 0 / 2 ^ (w - 14 * 658)) 0 zero-fill) in
+          let none : v / 2 ^ (w - 14 * 658) ≡ 0 =
+          rw (last-at input 658 at) at (eqb-true (getD row 658 0 / 2 ^ (w - 14 * 658)) 0 zero-fill) in
           let below : v < 1 * 2 ^ (w - 14 * 658) = div-lt-iff-lt-mul (pow-pos (w - 14 * 658)) .0 (omega (arith, none)) in
           let most : 2 ^ (w - 14 * 658) ≤ 2 ^ 5 = pow-mono {j = 5} (omega arith) in
           let one = place-small input (placePast sevens 658 input at) (omega (arith, below, most)) in
@@ -110,17 +112,20 @@ module _ (input : List ℕ) (room : ℕ) (long : 1321 ≤ length input) where
   unfolding cut
   form-alike =
       let same : firstNo (numberQuestions cut (placesAt cut)) ≡ firstNo (numberQuestions input (placesAt input)) =
-      ap (λ p. firstNo (numberQuestions cut p)) after-form ∙ asked-alike input 1321 long (placesAt input) (omega (arith, place-near input 0))
+      ap (λ p. firstNo (numberQuestions cut p)) after-form
+      ∙ asked-alike input 1321 long (placesAt input) (omega (arith, place-near input 0))
       in
       ap (λ (a : NumberAnswer). firstNo (ask 10 0 (eqb (a .value) 1) ∷ placesAsked room cut)) first
       ∙ one-alike 10 0 (eqb (formIn input) 1) (placesAsked room cut) (placesAsked room input)
-      (λ y. both-alike (numberQuestions cut (placesAt cut)) (numberQuestions input (placesAt input)) (sizeAsked room cut) (sizeAsked room input) same
+      (λ y. both-alike (numberQuestions cut (placesAt cut)) (numberQuestions input (placesAt input)) (sizeAsked room cut) (sizeAsked room input)
+      same
       (λ x. rw places))
 
   head-alike : firstNo (headQuestions cut room) ≡ firstNo (headQuestions input room)
   unfolding headQuestions cut
   head-alike =
-      both-alike (numberQuestions cut 0) (numberQuestions input 0) (formAsked room cut) (formAsked room input) (asked-alike input 1321 long 0 (omega arith))
+      both-alike (numberQuestions cut 0) (numberQuestions input 0) (formAsked room cut) (formAsked room input)
+      (asked-alike input 1321 long 0 (omega arith))
       (λ y. form-alike)
 
   module _ (headed : firstNo (headQuestions input room) ≡ allYes) where
@@ -166,14 +171,16 @@ module _ (input : List ℕ) (room : ℕ) (long : 1321 ≤ length input) where
         let end = row-place input 1321 long (numbersFor w) at row-room in
         ap (λ p. firstNo (ask 11 p (allZero (drop w (bitsFrom cut w at))) ∷ endAsked w at cut)) place
         ∙ ap (λ bs. firstNo (ask 11 (placePast sevens (numbersFor w - 1) input at) (allZero (drop w bs)) ∷ endAsked w at cut)) bits
-        ∙ one-alike 11 (placePast sevens (numbersFor w - 1) input at) (allZero (drop w (bitsFrom input w at))) (endAsked w at cut) (endAsked w at input)
+        ∙ one-alike 11 (placePast sevens (numbersFor w - 1) input at) (allZero (drop w (bitsFrom input w at))) (endAsked w at cut)
+        (endAsked w at input)
         (λ z. end-no cut cut-long (ap (λ bs. allZero (drop w bs)) bits ∙ z) ∙ ap (noAt 12) end ∙ sym (end-no input long z))
 
     body-alike : firstNo (bodyQuestions cut (W (placesIn cut)) (fourteensAt cut)) ≡ firstNo (bodyQuestions input w at)
     unfolding bodyQuestions cut
     body-alike =
         rw (places, after)
-        (both-alike (numbersQuestions sevens (numbersFor w) cut at) (numbersQuestions sevens (numbersFor w) input at) (fillAsked w at cut) (fillAsked w at input)
+        (both-alike (numbersQuestions sevens (numbersFor w) cut at) (numbersQuestions sevens (numbersFor w) input at) (fillAsked w at cut)
+        (fillAsked w at input)
         (row-asked input 1321 long (numbersFor w) at row-room) (λ y. fill-alike))
 
     surplus : firstNo (bodyQuestions input w at) ≡ allYes → ⊥
@@ -181,18 +188,21 @@ module _ (input : List ℕ) (room : ℕ) (long : 1321 ≤ length input) where
     surplus e =
         let end = placePast sevens (numbersFor w) input at in
         let rest = both-pass (numbersQuestions sevens (numbersFor w) input at) (fillAsked w at input) e .second in
-        let fill = passed 11 (placePast sevens (numbersFor w - 1) input at) (allZero (drop w (bitsFrom input w at))) (endAsked w at input) rest in
+        let fill = passed 11 (placePast sevens (numbersFor w - 1) input at)
+        (allZero (drop w (bitsFrom input w at))) (endAsked w at input) rest in
         let ends = leb-true (length input) end (passed 12 end (leb (length input) end) [] (fill .rest) .here) in
         omega (arith, ends, filled-near input w at few near (fill .here))
 
 -- such an input is refused, and by its first 1,321 bytes alike
-pub read-cut : (input : List ℕ) (room : ℕ) → sheetRoom ≤ length input → SameNo (readQuestions (take sheetRoom input) room) (readQuestions input room)
+pub read-cut : (input : List ℕ) (room : ℕ) → sheetRoom ≤ length input
+    → SameNo (readQuestions (take sheetRoom input) room) (readQuestions input room)
 unfolding readQuestions cut
 read-cut input room long =
     let part = take 1321 input in
     let body : List ℕ → List Question = λ bytes. bodyQuestions bytes (W (placesIn bytes)) (fourteensAt bytes) in
     same-no (headQuestions part room ++ body part) (headQuestions input room ++ body input)
-    (both-alike (headQuestions part room) (headQuestions input room) (body part) (body input) (head-alike input room long) (body-alike input room long))
+    (both-alike (headQuestions part room) (headQuestions input room) (body part) (body input) (head-alike input room long)
+    (body-alike input room long))
     (λ e.
-      let B = both-pass (headQuestions input room) (body input) e in
-      surplus input room long (B .first) (B .second))
+    let B = both-pass (headQuestions input room) (body input) e in
+    surplus input room long (B .first) (B .second))
