@@ -1,6 +1,7 @@
 #!/usr/bin/env python3
 """The three hand-kept lists of the exports against each other and the library: crates/capi/src/lib.rt (its structs:
-crates/capi_values), include/lomuveran.h, rust/src/ffi.rs, and the names that libcapi.a defines.
+crates/capi_values), include/lomuveran.h, rust/src/ffi.rs, and the names that libcapi.a defines. Parameters are compared by type
+and by name, so that no two of one type can change places.
 
   check_header.py ROOT LIBRARY
 """
@@ -18,27 +19,39 @@ def bare(text):
     return re.sub(r'\s+', ' ', re.sub(r'//[^\n]*|/\*.*?\*/', ' ', text, flags=re.S))
 
 
-def as_c(kind):
-    """The C parameters of a parameter of capi or of the Rust package: a slice is a pointer and a length."""
-    kind = kind.strip()
+def as_c(name, kind):
+    """The C parameters of a parameter of capi or of the Rust package, by type and name: a slice is a pointer and a length."""
     if kind in NUMBERS:
-        return [NUMBERS[kind]]
+        return [(NUMBERS[kind], name)]
     if slice_ := re.fullmatch(r'&(mut )?\[(\w+)\]', kind):
-        return [('' if slice_[1] else 'const ') + NUMBERS[slice_[2]] + ' *', 'size_t']
+        return [(('' if slice_[1] else 'const ') + NUMBERS[slice_[2]] + ' *', name), ('size_t', length_of(name))]
     if pointer := re.fullmatch(r'\*(mut|const) (\w+)', kind):
-        return [('' if pointer[1] == 'mut' else 'const ') + NUMBERS[pointer[2]] + ' *']
+        return [(('' if pointer[1] == 'mut' else 'const ') + NUMBERS[pointer[2]] + ' *', name)]
     raise SystemExit(f'no C type for {kind}')
 
 
+def length_of(name):
+    return f'length of {name}'
+
+
+def lengths_named(params):
+    """Where capi has a slice, C has a pointer and a length, called `len` or by the slice's name (bits, bit_count)."""
+    for i in range(1, len(params)):
+        (before, slice_), (kind, name) = params[i - 1:i + 1]
+        if before.endswith('*') and kind == 'size_t' and (name == 'len' or name.startswith(slice_.removesuffix('s') + '_')):
+            params[i] = (kind, length_of(slice_))
+    return params
+
+
 def from_rust(text, pattern):
-    """Name to (result, parameter types), of `fn NAME(a: T, ..) -> R`."""
-    return {name: (STRUCTS[result], [c for p in params.split(',') if p.strip() for c in as_c(p.split(':')[1])])
+    """Name to (result, parameters), of `fn NAME(a: T, ..) -> R`."""
+    return {name: (STRUCTS[result], lengths_named([c for p in params.split(',') if p.strip() for c in as_c(*p.strip().split(': '))]))
             for name, params, result in re.findall(pattern + r' fn (lomuveran_\w+)\(([^)]*)\) -> (\w+)', bare(text))}
 
 
 def from_header(text):
     found = re.findall(r'(lomuveran_\w+) (lomuveran_\w+)\(([^)]*)\);', bare(text))
-    return {name: (result, [re.fullmatch(r'\s*(.*?)(\w+)\s*', p)[1].strip() for p in params.split(',')])
+    return {name: (result, lengths_named([(kind.strip(), param) for kind, param in re.findall(r'([^,]*?)(\w+)\s*(?:,|$)', params)]))
             for result, name, params in found}
 
 

@@ -253,19 +253,22 @@ pub extern "C" fn lomuveran_permutation_exchange(
     capi_values::give(p.exchange(i, j), entries)
 }
 
-// First, then second, into first; `fixed` is the first one's number, `other` the second's.
+// First, then second, into first; each has its own number.
 #[no_mangle]
 pub extern "C" fn lomuveran_permutation_combine(
     first: &mut [u16],
-    fixed: usize,
+    first_fixed: usize,
     second: &[u16],
-    other: usize,
+    second_fixed: usize,
 ) -> CRecord
     ensures { λ r. ⌜ lending (toldIn r) (now (first .exit)) ≡ lent (records.combineCall (recordIn
-        (now (first .entry)) fixed) (recordIn (now (second .entry)) other)) (now (first .entry)) ⌝ }
+        (now (first .entry)) «first_fixed») (recordIn (now (second .entry)) «second_fixed»)) (now (first .entry)) ⌝ }
 {
-    let p = capi_values::record_of(first, fixed);
-    capi_values::give(p.combine(capi_values::record_of(second, other)), first)
+    let p = capi_values::record_of(first, first_fixed);
+    capi_values::give(
+        p.combine(capi_values::record_of(second, second_fixed)),
+        first,
+    )
 }
 
 #[no_mangle]

@@ -11,7 +11,7 @@ fn main() {
     if cmd_console::misused(Program::Chart, 0) {
         return;
     }
-    let mut input = [0u8; cmd_chart::CHART_ROOM];
+    let mut input = cmd_chart::input_buffer();
     let got = cmd_console::read_input(Program::Chart, &mut input);
     if got.failed {
         return;

@@ -18,7 +18,7 @@ use Rattle.network.proofs.Paper.{paper-lawful}
 use Rattle.permutation.specs.Permutations.{IsPermutation}
 use Rattle.canonical.proofs.Carry.{canonical-order}
 use Rattle.sheets.specs.Sheet.{sheet}
-use Rattle.sheets.specs.Calls.{SettingRead}
+use Rattle.sheets.specs.Calls.{settingOutcome, readSetting}
 use Rattle.wirings.specs.declared.Topology.the-variants.{Paper}
 use Rattle.wirings.specs.Nets.{wiringOf}
 use Rattle.cmd_move.specs.Calls.{mixCall, unmixCall}
@@ -41,7 +41,7 @@ module _ (n : ℕ) (order : List ℕ) (small : n ≤ 1024) (D : Demand2 Paper n 
 
   -- with room for the longest setting and the longest log, as the programs have it
   module _ (buffer log : List ℕ) (room : length buffer ≡ 9217) (log-room : length log ≡ entryWords * 9217) where
-    read : SettingRead made (overlay buffer 0 setting) (Number n (W n))
+    read : settingOutcome (Number n (W n)) (overlay buffer 0 setting) ≡ readSetting made buffer
     read =
         setting-read made buffer room {read = accepted n}
         (sym (sheets-read-back n small .sheet-read setting buffer (D .house-setting) (omega (arith, room, switches-few n small)))) refl refl
@@ -58,12 +58,12 @@ module _ (n : ℕ) (order : List ℕ) (small : n ≤ 1024) (D : Demand2 Paper n 
     mix-is : (width : ℕ) (blocks : List ℕ) → mixCall made width blocks ≡ unlogged (mix Paper n width blocks setting log)
     unfolding mixCall wiringOf
     mix-is width blocks =
-        sym (move-settles (moved paper) made width blocks read refl (rw (front, log-room)))
+        sym (move-settles (moved paper) made width blocks buffer read refl (rw (front, log-room)))
 
     unmix-is : (width : ℕ) (blocks : List ℕ) → unmixCall made width blocks ≡ unlogged (return Paper n width blocks setting log)
     unfolding unmixCall wiringOf
     unmix-is width blocks =
-        sym (move-settles (movedBack paper) made width blocks read refl (rw (front, log-room)))
+        sym (move-settles (movedBack paper) made width blocks buffer read refl (rw (front, log-room)))
 
     fits : RoomToMove n log
     fits = omega (arith, log-room, switches-few n small)
@@ -100,7 +100,7 @@ module _ (n : ℕ) (order : List ℕ) (small : n ≤ 1024) (D : Demand2 Paper n 
     shows-so O out =
         let text = settingText n (take (W n) (overlay buffer 0 setting)) in
         let is : outcome (accepted (length text)) (overlay out 0 text) ≡ showCall made out =
-        show-done made out read refl (record { place = omega arith; buffer = refl }) refl
+        show-done made out buffer read refl (record { place = omega arith; buffer = refl }) refl
         in
         sym is ∙ ap (λ t. outcome (accepted (length t)) (overlay out 0 t)) (text-is O)
 

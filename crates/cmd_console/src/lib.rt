@@ -1,8 +1,7 @@
 // What the programs share: arguments, a file by name, and the streams. No contract can say what is read or written; what is
 // chosen from it can be (crates cmd_words and cmd_streams).
-ghost use mathlib.Core.Path.{_≡_};
 ghost use Prim.Native.Nat.{_≤_};
-ghost use lib.ListN.{length, replicate};
+ghost use lib.ListN.{length};
 ghost use Rattle.io.specs.Counts.{Counts};
 ghost use Rattle.cmd_streams.specs.Decimal.{Spelled};
 use answers::Answer;
@@ -122,13 +121,6 @@ fn open(path: &[u8]) -> i32 {
         return os::open_read(path);
     }
     -1
-}
-
-// Zeros: room for the most blocks, and a byte more, so that a surplus shows.
-pub fn blocks_buffer() -> [u8; 262145]
-    ensures { λ r. ⌜ (262145 ≡ length r) × (r ≡ replicate 262145 0) ⌝ }
-{
-    [0; 262145]
 }
 
 // ---- what is written

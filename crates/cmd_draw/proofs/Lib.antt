@@ -1,2 +1,3 @@
 pub mod Entering
 pub mod Drawn
+pub mod Cut

@@ -1,5 +1,6 @@
--- The text of an input, question by question; and the program, which reads at most 3 bytes, prints what the whole input would give:
--- a number ends with the second byte at the latest, so that a longer input has a surplus byte among those read.
+-- The text of an input, question by question; and the program, which reads at most 2 bytes, prints what the whole input would give:
+-- a length of 6 or less has one byte, so that a longer input has a surplus byte among those read; and a length over 6 is refused
+-- whatever stands behind it.
 -- Assumes nothing.
 use mathlib.Core.Path.{_≡_, refl, sym, ap, _∙_}
 use mathlib.Core.List.{List, [], _∷_}
@@ -14,11 +15,11 @@ use Rattle.answers.specs.Questions.{Question, ask, Verdict, allYes, noAt, first
 use Rattle.answers.specs.Buffers.{Put}
 use Rattle.answers.proofs.Questions.{asked-yes, asked-no, asked-both, asked-first}
 use Rattle.numbers.specs.Numbers.{numberQuestions, NumberAnswer, sevens, Reads}
-use Rattle.numbers.proofs.Reach.{place-near, asked-alike, read-alike}
+use Rattle.numbers.proofs.Reach.{place-small, asked-alike, read-alike}
 use Rattle.cmd_lines.specs.Text.{refusalLine}
 use Rattle.cmd_lines.specs.Written.{written}
 use Rattle.cmd_lines.proofs.Written.{text-written}
-use Rattle.cmd_list.specs.Listing.{ordersOf, lengthIn, pastLength, lengthQuestions, listQuestions, textOf, ordersText, listCall}
+use Rattle.cmd_list.specs.Listing.{ordersOf, lengthIn, pastLength, lengthQuestions, listQuestions, textOf, ordersText, listRoom, listCall}
 
 -- a text that was put at the front of the buffer, where it is the input's
 pub prints :
@@ -66,39 +67,43 @@ module _ (input : List ℕ) where
           let ends = le-leb (length input) (pastLength input) (omega (arith, N .next)) in
           past-length (asked-yes 12 (pastLength input) (leb (length input) (pastLength input)) [] ends) ∙ ap ordersOf (N .value)
 
--- ---- three bytes are enough
+-- ---- two bytes are enough
 
-module _ (input : List ℕ) (long : 3 ≤ length input) where
+module _ (input : List ℕ) (long : listRoom ≤ length input) where
+  abbrev part : List ℕ
+  part = take listRoom input
+
   read : firstNo (numberQuestions input 0) ≡ allYes → Reads sevens input 0 (lengthIn input) (pastLength input)
   read t = record { asked = t; value = refl; next = refl }
 
-  -- the first three bytes give the same number
-  cut-read : firstNo (numberQuestions input 0) ≡ allYes → Reads sevens (take 3 input) 0 (lengthIn input) (pastLength input)
-  cut-read t =
-      let same = read-alike input 3 long 0 (omega arith) in
+  -- the first two bytes give the same number
+  part-read : firstNo (numberQuestions input 0) ≡ allYes → Reads sevens part 0 (lengthIn input) (pastLength input)
+  part-read t =
+      let same = read-alike input listRoom long 0 (omega arith) in
       record {
-        asked = asked-alike input 3 long 0 (omega arith) ∙ t;
+        asked = asked-alike input listRoom long 0 (omega arith) ∙ t;
         value = ap (λ (a : NumberAnswer). a .value) same;
         next = ap (λ (a : NumberAnswer). a .next) same;
       }
 
-  text-alike : ordersText (take 3 input) ≡ ordersText input
+  text-alike : ordersText part ≡ ordersText input
   text-alike = go (firstNo (numberQuestions input 0)) refl
     where
-      sized : firstNo (numberQuestions input 0) ≡ allYes → Dec (6 < lengthIn input) → ordersText (take 3 input) ≡ ordersText input
-      sized t (yes h) = too-long (take 3 input) (cut-read t) h ∙ sym (too-long input (read t) h)
+      -- a length of 6 or less has one byte
+      sized : firstNo (numberQuestions input 0) ≡ allYes → Dec (6 < lengthIn input) → ordersText part ≡ ordersText input
+      sized t (yes h) = too-long part (part-read t) h ∙ sym (too-long input (read t) h)
       sized t (no h) =
-          let near = place-near input 0 in
-          surplus (take 3 input) (cut-read t) (omega arith) (omega (arith, length-take-le 3 input long, near))
+          let near = place-small input 0 (omega arith) in
+          surplus part (part-read t) (omega arith) (omega (arith, length-take-le listRoom input long, near))
           ∙ sym (surplus input (read t) (omega arith) (omega (arith, long, near)))
 
-      go : (v : Verdict) → firstNo (numberQuestions input 0) ≡ v → ordersText (take 3 input) ≡ ordersText input
+      go : (v : Verdict) → firstNo (numberQuestions input 0) ≡ v → ordersText part ≡ ordersText input
       go allYes t = sized t (decLt 6 (lengthIn input))
-      go (noAt q p) t = no-number (take 3 input) (asked-alike input 3 long 0 (omega arith) ∙ t) ∙ sym (no-number input t)
+      go (noAt q p) t = no-number part (asked-alike input listRoom long 0 (omega arith) ∙ t) ∙ sym (no-number input t)
 
-pub list-cut : (input : List ℕ) → ordersText (take 3 input) ≡ ordersText input
-list-cut input = go (decLt (length input) 3)
+pub list-cut : (input : List ℕ) → ordersText (take listRoom input) ≡ ordersText input
+list-cut input = go (decLt (length input) listRoom)
   where
-    go : Dec (length input < 3) → ordersText (take 3 input) ≡ ordersText input
-    go (yes h) = ap ordersText (take-all 3 input (omega arith))
+    go : Dec (length input < listRoom) → ordersText (take listRoom input) ≡ ordersText input
+    go (yes h) = ap ordersText (take-all listRoom input (omega arith))
     go (no h) = text-alike input (omega arith)

@@ -56,6 +56,10 @@ textOf (noAt q p) input = refusalLine q p
 unfoldable pub ordersText : List ℕ → List ℕ
 ordersText input = textOf (firstNo (listQuestions input)) input
 
+-- how many bytes the program reads: a length of 6 or less has one byte, so that a surplus shows, and a longer one is refused for itself
+abbrev pub listRoom : ℕ
+listRoom = 2
+
 -- ---- the call
 
 -- the text over the front of the buffer

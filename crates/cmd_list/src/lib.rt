@@ -1,15 +1,22 @@
 // The text that the program `list` prints, as a function on slices.
 ghost use mathlib.Core.Path.{_≡_};
 ghost use Prim.Native.Nat.{_+_, _≤_, _<_};
-ghost use lib.ListN.{length};
+ghost use lib.ListN.{length, replicate};
 ghost use Rattle.answers.specs.Buffers.{Put};
 ghost use Rattle.ranks_order.specs.Ranks.{factorial};
 ghost use Rattle.cmd_lines.specs.Written.{written};
-ghost use Rattle.cmd_list.specs.Listing.{orderLine, ordersOf, listCall};
+ghost use Rattle.cmd_list.specs.Listing.{orderLine, ordersOf, listRoom, listCall};
 use numbers::ReadNumber;
 
-// Room for the longest number, which has 2 bytes, and a byte more, so that a surplus shows.
-pub const LIST_ROOM: usize = 3;
+// Room for a length of 6 or less, which has one byte, and a byte more, so that a surplus shows; or for a longer one, which is refused.
+pub const LIST_ROOM: usize = 2;
+
+// What the program reads into. So many bytes lose nothing (proofs/Asking, `list-cut`).
+pub fn input_buffer() -> [u8; LIST_ROOM]
+    ensures { λ r. ⌜ (listRoom ≡ length r) × (r ≡ replicate listRoom 0) ⌝ }
+{
+    [0; LIST_ROOM]
+}
 
 // What `list` prints for an input, over the front of out, and its length. The longest text is that of 6 places: 720 lines of 24
 // bytes.

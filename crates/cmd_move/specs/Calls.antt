@@ -18,6 +18,10 @@ unfoldable pub moveQuestions : List ℕ → ℕ → ℕ → List Question
 moveQuestions sheet width filled =
     readQuestions sheet 9217 ++ applyQuestions (placesIn sheet) width filled (settingIn sheet) (entryWords * 9217)
 
+-- how many bytes of blocks a program reads: a byte more than the most blocks have, so that a surplus shows
+abbrev pub blocksRoom : ℕ
+blocksRoom = 262145
+
 -- the blocks moved in a direction, and as count the switches that acted
 abbrev pub moveCall : (ℕ → ℕ → List ℕ → List ℕ → List ℕ) → List ℕ → ℕ → List ℕ → Outcome
 moveCall direction sheet width blocks =

@@ -1,9 +1,20 @@
 // Blocks moved under the setting of a sheet: what the programs `mix` and `unmix` do with what they read.
 ghost use mathlib.Core.Path.{_≡_};
+ghost use lib.ListN.{length, replicate};
 ghost use Rattle.answers.specs.Outcomes.{outcome};
-ghost use Rattle.cmd_move.specs.Calls.{mixCall, unmixCall};
+ghost use Rattle.cmd_move.specs.Calls.{blocksRoom, mixCall, unmixCall};
 use answers::Answer;
 use numbers::ReadNumber;
+
+// Room for the most blocks, which have 262,144 bytes, and a byte more, so that a surplus shows.
+pub const BLOCKS_ROOM: usize = 262145;
+
+// What a program reads blocks into. So many bytes lose nothing (proofs/Cut, `blocks-cut`).
+pub fn blocks_buffer() -> [u8; BLOCKS_ROOM]
+    ensures { λ r. ⌜ (blocksRoom ≡ length r) × (r ≡ replicate blocksRoom 0) ⌝ }
+{
+    [0; BLOCKS_ROOM]
+}
 
 // Forward (01: mix). The sheet is asked first, and then the blocks; nothing is written before.
 pub fn mix(sheet: &[u8], width: usize, blocks: &mut [u8]) -> Answer

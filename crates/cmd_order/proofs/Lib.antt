@@ -1,3 +1,4 @@
 pub mod Asking
 pub mod Setting
 pub mod Outcomes
+pub mod Cut

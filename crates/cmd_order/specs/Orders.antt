@@ -28,6 +28,10 @@ orderIn input = numbersAt sevens (countIn input) input (entriesAt input)
 abbrev pub endOf : List ℕ → ℕ
 endOf input = placePast sevens (countIn input) input (entriesAt input)
 
+-- how many bytes of an order a program reads: the longest order has one less, so that a surplus byte shows
+abbrev pub orderRoom : ℕ
+orderRoom = 2051
+
 -- ---- the questions: 8, 9, 1 for the count; 8, 9 for each entry; then 12, 6
 
 -- all but 6, which speaks of the order and not of its form

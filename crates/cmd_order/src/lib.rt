@@ -2,15 +2,22 @@
 // setting of it.
 ghost use mathlib.Core.Path.{_≡_};
 ghost use Prim.Native.Nat.{_≤_};
-ghost use lib.ListN.{length};
+ghost use lib.ListN.{length, replicate};
 ghost use Rattle.answers.specs.Outcomes.{outcome};
 ghost use Rattle.rows.specs.Rows.{Row};
-ghost use Rattle.cmd_order.specs.Orders.{countIn, orderIn, endOf, formQuestions, entryQuestions, setReport, reported, orderReport};
+ghost use Rattle.cmd_order.specs.Orders.{orderRoom, countIn, orderIn, endOf, formQuestions, entryQuestions, setReport, reported, orderReport};
 use answers::Answer;
 use numbers::ReadNumber;
 
 // Room for the longest order, which has 2,050 bytes, and a byte more, so that a surplus shows.
 pub const ORDER_ROOM: usize = 2051;
+
+// What a program reads an order into. So many bytes lose nothing (proofs/Cut).
+pub fn input_buffer() -> [u8; ORDER_ROOM]
+    ensures { λ r. ⌜ (orderRoom ≡ length r) × (r ≡ replicate orderRoom 0) ⌝ }
+{
+    [0; ORDER_ROOM]
+}
 
 // An answer, and beside it the number of entries that the setter logged: 0 in a refusal.
 pub struct OrderSet {

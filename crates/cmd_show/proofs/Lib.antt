@@ -1,2 +1,3 @@
 pub mod Spacing
 pub mod Showing
+pub mod Cut

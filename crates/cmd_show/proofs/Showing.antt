@@ -16,7 +16,7 @@ use Rattle.network.specs.Wiring.{paper}
 use Rattle.network.specs.Blocks.{orderOf}
 use Rattle.network.proofs.Paper.{paper-lawful}
 use Rattle.network.proofs.Order.{length-order}
-use Rattle.sheets.specs.Calls.{placesIn, readQuestions, settingIn, SettingRead}
+use Rattle.sheets.specs.Calls.{placesIn, readQuestions, settingIn, settingOutcome, readSetting}
 use Rattle.answers.proofs.Putting.{put-then, put-length}
 use Rattle.cmd_lines.specs.Text.{text, decimal, bitsText, line}
 use Rattle.cmd_lines.proofs.Decimal.{digits-few}
@@ -24,8 +24,7 @@ use Rattle.cmd_lines.proofs.Lines.{put-kept, bits-within}
 use Rattle.numbers.specs.Reading.{answerOf}
 use Rattle.numbers.specs.declared.ReadNumber.{ReadNumber}
 use Rattle.numbers.specs.declared.ReadNumber.the-variants.{Number, Refused}
-use Rattle.rows.proofs.Reading.{row-stops}
-use Rattle.sheets.proofs.Setting.{setting-got, setting-there}
+use Rattle.sheets.proofs.Setting.{setting-stops, setting-got, setting-there}
 use Rattle.cmd_show.specs.Show.{orderText, pictured, settingText, showCall}
 
 -- ---- the lines
@@ -75,16 +74,20 @@ setting-put {a} n bits h g l P Q R =
 
 -- ---- the call
 
-module _ (sheet out : List ℕ) {bits : List ℕ} {read : ReadNumber} (R : SettingRead sheet bits read) {a : Answer} where
-  pub show-refused : {q p : ℕ} → read ≡ Refused q p → a ≡ answerOf read → outcome a out ≡ showCall sheet out
-  unfolding showCall
-  show-refused t e = ends-refused (firstNo (readQuestions sheet 9217)) _ _ out (row-stops t R) (e ∙ ap answerOf t) refl
+module _
+    (sheet out before : List ℕ) {bits : List ℕ} {read : ReadNumber} (R : settingOutcome read bits ≡ readSetting sheet before)
+    {a : Answer}
+  where
+    pub show-refused : {q p : ℕ} → read ≡ Refused q p → a ≡ answerOf read → outcome a out ≡ showCall sheet out
+    unfolding showCall
+    show-refused t e = ends-refused (firstNo (readQuestions sheet 9217)) _ _ out (setting-stops sheet before R t) (e ∙ ap answerOf t) refl
 
-  pub show-done : {n w r : ℕ} {after : List ℕ} → read ≡ Number n w → Put out 0 (settingText n (take w bits)) r after → a ≡ accepted r
-      → outcome a after ≡ showCall sheet out
-  unfolding showCall
-  show-done {n} {w} t P e =
-      let G = setting-got sheet R t in
-      let same : settingText n (take w bits) ≡ settingText (placesIn sheet) (settingIn sheet) = rw (setting-there sheet R t, G .value) in
-      ends-accepted (firstNo (readQuestions sheet 9217)) _ _ out (G .asked)
-      (e ∙ ap accepted (put-length P ∙ ap length same)) (P .buffer ∙ ap (overlay out 0) same)
+    pub show-done : {n w r : ℕ} {after : List ℕ} → read ≡ Number n w → Put out 0 (settingText n (take w bits)) r after → a ≡ accepted r
+        → outcome a after ≡ showCall sheet out
+    unfolding showCall
+    show-done {n} {w} t P e =
+        let G = setting-got sheet before R t in
+        let same : settingText n (take w bits) ≡ settingText (placesIn sheet) (settingIn sheet) =
+        rw (setting-there sheet before R t, G .value) in
+        ends-accepted (firstNo (readQuestions sheet 9217)) _ _ out (G .asked)
+        (e ∙ ap accepted (put-length P ∙ ap length same)) (P .buffer ∙ ap (overlay out 0) same)

@@ -11,7 +11,7 @@ fn main() {
     if cmd_console::misused(Program::List, 0) {
         return;
     }
-    let mut input = [0u8; cmd_list::LIST_ROOM];
+    let mut input = cmd_list::input_buffer();
     let got = cmd_console::read_input(Program::List, &mut input);
     if got.failed {
         return;

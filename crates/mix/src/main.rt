@@ -9,7 +9,7 @@ fn mix(sheet: &[u8], width: usize, blocks: &mut [u8]) {
 }
 
 fn read(sheet: &[u8], width: usize) {
-    let mut blocks = cmd_console::blocks_buffer();
+    let mut blocks = cmd_move::blocks_buffer();
     let got = cmd_console::read_input(Program::Mix, &mut blocks);
     if got.failed {
         return;
@@ -23,7 +23,7 @@ fn main() {
     let Argument::Number(width) = last else {
         return;
     };
-    let mut sheet = [0u8; sheets::SHEET_ROOM];
+    let mut sheet = sheets::input_buffer();
     let got = cmd_console::read_named(Program::Mix, 1, &mut sheet);
     if got.failed {
         return;

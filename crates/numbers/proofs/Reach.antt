@@ -1,16 +1,16 @@
 -- How far a number reaches, and that its own bytes are enough to read it: an input cut behind them gives the same number.
 -- Assumes nothing.
 use mathlib.Core.Path.{_≡_, refl, sym, ap, _∙_}
-use mathlib.Core.Bool.{Bool, true, false, _||_}
+use mathlib.Core.Bool.{Bool, true, false, _||_, and-eq-true-iff}
 use mathlib.Core.List.{List, [], _∷_}
 use Prim.Native.Nat.{ℕ, _+_, _*_, _%_, _≤_, _<_}
 use native.Mathlib.Omega.{arith}
-use lib.Dec.{ltb}
+use lib.Dec.{ltb, leb}
 use lib.ListN.{length, take}
 use lib.Seq.{length-take-le, getD-take}
-use borrow.Author.Tests.{lt-ltb}
+use borrow.Author.Tests.{lt-ltb, leb-true}
 use Rattle.answers.specs.Questions.{Question, ask, Verdict, allYes, noAt, firstNo}
-use Rattle.answers.proofs.Questions.{asked-yes}
+use Rattle.answers.proofs.Questions.{asked-yes, passed}
 use Rattle.numbers.specs.Numbers.{byteAt, oneByte, ends, numberQuestions, valueAt, placeAfter, numberAt}
 
 pub place-near : (input : List ℕ) (at : ℕ) → numberAt input at .next ≤ at + 2
@@ -24,6 +24,28 @@ place-near input at = go (firstNo (numberQuestions input at)) refl
     go : (v : Verdict) → firstNo (numberQuestions input at) ≡ v → numberAt input at .next ≤ at + 2
     go allYes t = rw t (after (oneByte input at) refl)
     go (noAt q p) t = rw t (omega arith)
+
+-- a number below 128 has one byte: the second byte of a number is not 0
+pub place-small : (input : List ℕ) (at : ℕ) → numberAt input at .value < 128 → numberAt input at .next ≤ at + 1
+unfolding numberAt numberQuestions
+place-small input at = go (firstNo (numberQuestions input at)) refl
+  where
+    after : (b : Bool) → oneByte input at ≡ b → firstNo (numberQuestions input at) ≡ allYes → valueAt input at < 128
+        → placeAfter input at ≤ at + 1
+    after true t e h = rw (t, placeAfter) (omega arith)
+    after false t e h =
+        let high = byteAt input (at + 1) in
+        let third : List Question = ask 9 at (oneByte input at || ends high) ∷ [] in
+        let second : List Question = ask 8 (length input) (oneByte input at || ltb (at + 1) (length input)) ∷ third in
+        let started = passed 8 (length input) (ltb at (length input)) second e .rest in
+        let passes = passed 8 (length input) (oneByte input at || ltb (at + 1) (length input)) third started .rest in
+        let ended : ends high ≡ true = rw t at (passed 9 at (oneByte input at || ends high) [] passes .here) in
+        let value : valueAt input at ≡ byteAt input at % 128 + high * 128 = rw (t, valueAt) in
+        absurd (omega (arith, value, leb-true 1 high (and-eq-true-iff (leb 1 high) (ltb high 128) .0 ended .0)))
+
+    go : (v : Verdict) → firstNo (numberQuestions input at) ≡ v → numberAt input at .value < 128 → numberAt input at .next ≤ at + 1
+    go allYes t h = rw t (after (oneByte input at) refl t (rw t at h))
+    go (noAt q p) t h = rw t (omega arith)
 
 -- a number and the place after it, from its bytes
 abbrev valueOf : ℕ → ℕ → ℕ

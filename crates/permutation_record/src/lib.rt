@@ -22,11 +22,11 @@ pub struct Reply {
 }
 
 // The one place where a record is made.
-fn build(length: usize, entries: [u16; 1024], fixed: usize) -> Permutation
-    ensures { λ r. ⌜ r ≡ record { length = length; entries = entries; fixed = fixed } ⌝ }
+fn build(n: usize, entries: [u16; 1024], fixed: usize) -> Permutation
+    ensures { λ r. ⌜ r ≡ record { length = n; entries = entries; fixed = fixed } ⌝ }
 {
     Permutation {
-        length,
+        length: n,
         entries,
         fixed,
     }
@@ -51,10 +51,10 @@ fn examine(p: Permutation) -> answers::Answer
 
 // What the asking answers: it follows from the length and the number alone. Public only for the call for C, which need not
 // make a record.
-pub fn fixed_points_of(length: usize, fixed: usize) -> answers::Answer
-    ensures { λ r. ⌜ r ≡ answerOf (firstNo (lengthAsks length)) fixed ⌝ }
+pub fn fixed_points_of(n: usize, fixed: usize) -> answers::Answer
+    ensures { λ r. ⌜ r ≡ answerOf (firstNo (lengthAsks n)) fixed ⌝ }
 {
-    if 1024 < length {
+    if 1024 < n {
         return answers::refuse(1, 0);
     }
     answers::accept(fixed)

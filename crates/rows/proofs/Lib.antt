@@ -1,3 +1,4 @@
 pub mod Rows
 pub mod Reading
 pub mod Writing
+pub mod Reach

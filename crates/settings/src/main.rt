@@ -11,7 +11,7 @@ fn main() {
     if cmd_console::misused(Program::Settings, 0) {
         return;
     }
-    let mut input = [0u8; cmd_order::ORDER_ROOM];
+    let mut input = cmd_order::input_buffer();
     let got = cmd_console::read_input(Program::Settings, &mut input);
     if got.failed {
         return;

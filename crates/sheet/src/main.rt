@@ -12,7 +12,7 @@ fn main() {
     if cmd_console::misused(Program::Sheet, 0) {
         return;
     }
-    let mut input = [0u8; cmd_order::ORDER_ROOM];
+    let mut input = cmd_order::input_buffer();
     let got = cmd_console::read_input(Program::Sheet, &mut input);
     if got.failed {
         return;

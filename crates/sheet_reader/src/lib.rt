@@ -10,7 +10,7 @@ ghost use Rattle.numbers.specs.Reading.{readOf};
 ghost use Rattle.rows.specs.Rows.{numbersAt, placePast, Row, Fourteens};
 ghost use Rattle.sheets.specs.Sheet.{numbersFor};
 ghost use Rattle.sheets.specs.Reading.{bitsIn, allZero};
-ghost use Rattle.sheets.specs.Calls.{readSheet, headQuestions, bodyQuestions, placesIn, fourteensAt, SettingRead};
+ghost use Rattle.sheets.specs.Calls.{readSheet, headQuestions, bodyQuestions, placesIn, fourteensAt, settingOutcome, readSetting};
 use answers::Answer;
 use numbers::ReadNumber;
 
@@ -35,7 +35,7 @@ pub fn read_sheet(input: &[u8], bits: &mut [u8]) -> Answer
 // The setting of a sheet, over the front of bits, which have room for each: n and W(n), or the refusal. Public for the crates
 // that do something with a setting.
 pub fn read_setting(sheet: &[u8], bits: &mut [u8; counts::MOST_SWITCHES]) -> ReadNumber
-    ensures { λ r. ⌜ SettingRead (now (sheet .entry)) (now (bits .exit)) r ⌝ }
+    ensures { λ r. ⌜ settingOutcome r (now (bits .exit)) ≡ readSetting (now (sheet .entry)) (now (bits .entry)) ⌝ }
 {
     let read = read_sheet(sheet, bits);
     if read.number != 0 {

@@ -5,3 +5,4 @@ pub mod Calls
 pub mod Round
 pub mod Setting
 pub mod Cases
+pub mod Cut

@@ -10,21 +10,21 @@ use lib.ListN.{length, take, List·getD-eq-default, length-take}
 use lib.Seq.{length-take-le}
 use Rattle.answers.specs.declared.Answer.{Answer}
 use Rattle.answers.specs.Questions.{Verdict, allYes, noAt, firstNo}
-use Rattle.answers.specs.Outcomes.{answerOf, Outcome, outcome}
+use Rattle.answers.specs.Outcomes.{answerOf, bufferOf, Outcome, outcome}
 use Rattle.answers.proofs.Questions.{both-pass}
 use Rattle.answers.proofs.Buffers.{overlay-taken}
 use Rattle.bits.specs.Bits.{Bits}
 use Rattle.counts.specs.Counts.{W}
 use Rattle.numbers.specs.Numbers.{sevens}
+use Rattle.numbers.specs.Reading.{readOf}
 use Rattle.numbers.specs.declared.ReadNumber.{ReadNumber}
 use Rattle.numbers.specs.declared.ReadNumber.the-variants.{Number, Refused}
-use Rattle.numbers.proofs.Numbers.{Got, got-number}
+use Rattle.numbers.proofs.Numbers.{Got, got-number, got-refused}
 use Rattle.rows.specs.Rows.{numbersAt}
 use Rattle.rows.proofs.Rows.{numbers-length}
-use Rattle.rows.proofs.Reading.{row-refused}
 use Rattle.sheets.specs.Sheet.{numbersFor}
 use Rattle.sheets.specs.Reading.{bitsIn}
-use Rattle.sheets.specs.Calls.{placesIn, fourteensAt, headQuestions, bodyQuestions, bitsFrom, readQuestions, settingIn, readSheet, SettingRead}
+use Rattle.sheets.specs.Calls.{placesIn, fourteensAt, headQuestions, bodyQuestions, bitsFrom, readQuestions, settingIn, readSheet, SettingOutcome, settingOutcome, readSetting}
 use Rattle.sheets.proofs.Asking.{Sized, head-sized}
 use Rattle.sheets.proofs.Unpacking.{bits-length, bit-at, bits-take}
 use Rattle.sheets.proofs.Round.{read-only}
@@ -65,14 +65,19 @@ module _ (sheet before : List ℕ) (room : length before ≡ 9217) {read : Answe
   unfolding readSheet
   told = ap (λ (o : Outcome). o .answer) e ∙ rw room
 
-  pub setting-refused : (read .number ≡ 0 → ⊥) → SettingRead sheet bits (Refused (read .number) (read .place))
+  left : bits ≡ bufferOf verdict (settingIn sheet) before
+  unfolding readSheet
+  left = ap (λ (o : Outcome). o .buffer) e ∙ rw room
+
+  pub setting-refused : (read .number ≡ 0 → ⊥) → settingOutcome (Refused (read .number) (read .place)) bits ≡ readSetting sheet before
+  unfolding readSetting
   setting-refused h = go verdict refl
     where
-      go : (v : Verdict) → verdict ≡ v → SettingRead sheet bits (Refused (read .number) (read .place))
+      go : (v : Verdict) → verdict ≡ v → settingOutcome (Refused (read .number) (read .place)) bits ≡ readSetting sheet before
       go allYes t = absurd (h (ap (λ (a : Answer). a .number) told ∙ rw t))
       go (noAt q p) t =
           let is : read ≡ answerOf (noAt q p) (placesIn sheet) = told ∙ rw t in
-          row-refused t (rw is)
+          rw (is, left, t)
 
   module _ (z : read .number ≡ 0) where
     passed : verdict ≡ allYes
@@ -84,33 +89,41 @@ module _ (sheet before : List ℕ) (room : length before ≡ 9217) {read : Answe
     pub read-few : read .count ≤ 1024
     read-few = rw places (passed-sized sheet 9217 passed .few)
 
-    there : take (W (placesIn sheet)) bits ≡ settingIn sheet
-    unfolding readSheet
-    there = overlay-taken before (ap (λ (o : Outcome). o .buffer) e ∙ rw (room, passed)) (setting-length sheet)
-
-    pub setting-read : {w : ℕ} → w ≡ W (read .count) → SettingRead sheet bits (Number (read .count) w)
-    setting-read c = record { answer = rw (passed, c, places); numbers = λ y. there }
+    pub setting-read : {w : ℕ} → w ≡ W (read .count) → settingOutcome (Number (read .count) w) bits ≡ readSetting sheet before
+    unfolding readSetting
+    setting-read c = rw (left, passed, c, places)
 
 -- ---- what a caller of `read_setting` has
 
-module _ (sheet : List ℕ) {bits : List ℕ} {r : ReadNumber} (R : SettingRead sheet bits r) {n w : ℕ} (t : r ≡ Number n w) where
-  pub setting-got : Got (firstNo (readQuestions sheet 9217)) (placesIn sheet) (W (placesIn sheet)) n w
-  setting-got = got-number (firstNo (readQuestions sheet 9217)) (placesIn sheet) (W (placesIn sheet)) (sym t ∙ R .answer)
+module _ (sheet before : List ℕ) {bits : List ℕ} {r : ReadNumber} (e : settingOutcome r bits ≡ readSetting sheet before) where
+  setting-told : r ≡ readOf (firstNo (readQuestions sheet 9217)) (placesIn sheet) (W (placesIn sheet))
+  unfolding readSetting
+  setting-told = ap (λ (o : SettingOutcome). o .read) e
 
-  pub setting-few : n ≤ 1024
-  setting-few = rw (setting-got .value) (passed-sized sheet 9217 (setting-got .asked) .few)
+  pub setting-stops : {q p : ℕ} → r ≡ Refused q p → firstNo (readQuestions sheet 9217) ≡ noAt q p
+  setting-stops t = got-refused (firstNo (readQuestions sheet 9217)) (placesIn sheet) (W (placesIn sheet)) (sym t ∙ setting-told)
 
-  pub setting-fits : W n ≤ 9217
-  setting-fits = rw (setting-got .value) (passed-sized sheet 9217 (setting-got .asked) .fits)
+  module _ {n w : ℕ} (t : r ≡ Number n w) where
+    pub setting-got : Got (firstNo (readQuestions sheet 9217)) (placesIn sheet) (W (placesIn sheet)) n w
+    setting-got = got-number (firstNo (readQuestions sheet 9217)) (placesIn sheet) (W (placesIn sheet)) (sym t ∙ setting-told)
 
-  pub setting-there : take w bits ≡ settingIn sheet
-  setting-there = rw (setting-got .place) (R .numbers (setting-got .asked))
+    pub setting-few : n ≤ 1024
+    setting-few = rw (setting-got .value) (passed-sized sheet 9217 (setting-got .asked) .few)
 
-  pub setting-room : w ≤ length bits
-  setting-room = omega (arith, ap length setting-there, setting-length sheet, setting-got .place, length-take w bits)
+    pub setting-fits : W n ≤ 9217
+    setting-fits = rw (setting-got .value) (passed-sized sheet 9217 (setting-got .asked) .fits)
 
-  pub setting-count : length (take w bits) ≡ W n
-  setting-count = ap length setting-there ∙ setting-length sheet ∙ sym (ap W (setting-got .value))
+    pub setting-there : take w bits ≡ settingIn sheet
+    unfolding readSetting
+    setting-there =
+        rw (setting-got .place)
+        (overlay-taken before (ap (λ (o : SettingOutcome). o .bits) e ∙ rw (setting-got .asked)) (setting-length sheet))
 
-  pub setting-areBits : Bits (take w bits)
-  setting-areBits = rw setting-there (setting-bits sheet)
+    pub setting-room : w ≤ length bits
+    setting-room = omega (arith, ap length setting-there, setting-length sheet, setting-got .place, length-take w bits)
+
+    pub setting-count : length (take w bits) ≡ W n
+    setting-count = ap length setting-there ∙ setting-length sheet ∙ sym (ap W (setting-got .value))
+
+    pub setting-areBits : Bits (take w bits)
+    setting-areBits = rw setting-there (setting-bits sheet)

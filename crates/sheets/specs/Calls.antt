@@ -6,12 +6,13 @@ use Prim.Native.Nat.{ℕ, _-_, _≤_}
 use lib.Dec.{leb, eqb}
 use lib.ListN.{length, take, drop}
 use Rattle.answers.specs.Questions.{Question, ask, askEach, firstNo}
-use Rattle.answers.specs.Outcomes.{Outcome, settled}
+use Rattle.answers.specs.Outcomes.{bufferOf, Outcome, settled}
 use Rattle.bits.specs.Bits.{isBit, Bits}
 use Rattle.counts.specs.Counts.{W}
 use Rattle.numbers.specs.Numbers.{numberQuestions, numberAt, sevens}
+use Rattle.numbers.specs.Reading.{readOf}
 use Rattle.numbers.specs.declared.ReadNumber.{ReadNumber}
-use Rattle.rows.specs.Rows.{numbersQuestions, numbersAt, placePast, Row}
+use Rattle.rows.specs.Rows.{numbersQuestions, numbersAt, placePast}
 use Rattle.sheets.specs.Sheet.{numbersFor, sheet}
 use Rattle.sheets.specs.Reading.{bitsIn, allZero}
 
@@ -89,7 +90,17 @@ unfoldable pub readSheet : List ℕ → List ℕ → Outcome
 readSheet input buffer =
     settled (firstNo (readQuestions input (length buffer))) (placesIn input) (settingIn input) buffer
 
--- .. read into room for the longest setting: n and W(n) where every question gets a yes, and then the setting in front
-abbrev pub SettingRead : List ℕ → List ℕ → ReadNumber → Type 0
-SettingRead input bits r =
-    Row (readQuestions input 9217) (placesIn input) (W (placesIn input)) (W (placesIn input)) (settingIn input) bits r
+-- ---- .. into room for the longest setting: n and W(n), or the refusal, and the bits
+
+pub record SettingOutcome : Type 0 where
+  pub read : ReadNumber
+  pub bits : List ℕ
+
+abbrev pub settingOutcome : ReadNumber → List ℕ → SettingOutcome
+settingOutcome r bits = record { read = r; bits = bits }
+
+-- the setting over the front of the bits where every question gets a yes, and else the bits as they were
+unfoldable pub readSetting : List ℕ → List ℕ → SettingOutcome
+readSetting input bits =
+    settingOutcome (readOf (firstNo (readQuestions input 9217)) (placesIn input) (W (placesIn input)))
+    (bufferOf (firstNo (readQuestions input 9217)) (settingIn input) bits)

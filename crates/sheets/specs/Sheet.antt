@@ -23,3 +23,7 @@ fourteens (suc k) bits = bitsNumber (take 14 bits) ∷ fourteens k (drop 14 bits
 -- the form number 1, then n, then the bits in fourteens
 unfoldable pub sheet : ℕ → List ℕ → List ℕ
 sheet n bits = numbersBytes sevens (1 ∷ n ∷ fourteens (numbersFor (length bits)) bits)
+
+-- how many bytes of a sheet a program reads: the longest sheet has one less, so that a surplus byte shows
+abbrev pub sheetRoom : ℕ
+sheetRoom = 1321

@@ -13,7 +13,7 @@ fn main() {
     if cmd_console::misused(Program::Show, 1) {
         return;
     }
-    let mut sheet = [0u8; sheets::SHEET_ROOM];
+    let mut sheet = sheets::input_buffer();
     let got = cmd_console::read_named(Program::Show, 1, &mut sheet);
     if got.failed {
         return;

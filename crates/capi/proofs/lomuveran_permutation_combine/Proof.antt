@@ -33,7 +33,7 @@ returns c =
     reply-crosses (a .first .now) (c .before .before .give .ensures)
     (b4 .combine .ensures
     ∙ ap (combineCall (b6 .record-of .result)) (b5 .record-of2 .ensures)
-    ∙ ap (λ (p : Permutation). combineCall p (recordIn (a .second .now) (a .other))) (b6 .record-of .ensures))
+    ∙ ap (λ (p : Permutation). combineCall p (recordIn (a .second .now) (a .second-fixed))) (b6 .record-of .ensures))
 
 pub lomuveran-permutation-combine-spec : {M : Type 1} → statement M
 lomuveran-permutation-combine-spec =

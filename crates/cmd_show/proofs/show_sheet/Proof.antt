@@ -22,22 +22,22 @@ answer-requires : tie.Need-answer-requires
 answer-requires c κs = search needs
 
 returns : tie.Need-returns
-returns c = show-refused _ _ (c .before .before .before .read-setting .ensures) (c .before .enum-told .given .1) (c .answer .ensures)
+returns c = show-refused _ _ _ (c .before .before .before .read-setting .ensures) (c .before .enum-told .given .1) (c .answer .ensures)
 
 array-share-prefix-bits : tie.Need-array-share-prefix-bits
-array-share-prefix-bits c = setting-room _ (c .before .before .before .before .read-setting .ensures) (c .before .before .read .given .1)
+array-share-prefix-bits c = setting-room _ _ (c .before .before .before .before .read-setting .ensures) (c .before .before .read .given .1)
 
 slice-aggregate-put-setting : tie.Need-slice-aggregate-put-setting
 slice-aggregate-put-setting c =
     let r = c .before .before .before in
-    sym (length-take-le _ _ (setting-room _ (r .before .before .read-setting .ensures) (r .read .given .1)))
+    sym (length-take-le _ _ (setting-room _ _ (r .before .before .read-setting .ensures) (r .read .given .1)))
 
 put-setting-requires : tie.Need-put-setting-requires
 put-setting-requires c κs =
     let r = c .before .before .before in
     let R = r .before .before .read-setting .ensures in
     let t = r .read .given .1 in
-    (setting-few _ R t, setting-fits _ R t, setting-count _ R t, setting-areBits _ R t, omega arith)
+    (setting-few _ _ R t, setting-fits _ _ R t, setting-count _ _ R t, setting-areBits _ _ R t, omega arith)
 
 accept-requires : tie.Need-accept-requires
 accept-requires c κs = search needs
@@ -45,7 +45,7 @@ accept-requires c κs = search needs
 returns-2 : tie.Need-returns-2
 returns-2 c =
     let r = c .before .before .before .before .before in
-    show-done _ _ (r .before .before .read-setting .ensures) (r .read .given .1) (c .before .put-setting .ensures) (c .accept .ensures)
+    show-done _ _ _ (r .before .before .read-setting .ensures) (r .read .given .1) (c .before .put-setting .ensures) (c .accept .ensures)
 
 pub show-sheet-spec : {M : Type 1} → statement M
 show-sheet-spec =
