@@ -45,13 +45,14 @@ def readme_calls(text):
 
 
 def header_calls(text):
-    """What each declared call asks, by the comment before it; `as above` and records are left out."""
+    """What each declared call asks, by the comment before it."""
     calls = {}
     for comment, names in re.findall(r'/\*((?:(?!\*/).)*)\*/\n((?:(?!/\*).)*)', text, re.S):
         found = re.search(r'Questions? ((?:\d+|[ ,;]|of (?:each number|given|out)|\(.*?\))+)', re.sub(r'\s*\n \* ?', ' ', comment))
+        like = re.search(r'As lomuveran_(\w+)\.', comment)
         for name in re.findall(r'\blomuveran_(\w+)\(', names):
-            if found:
-                calls[name] = sequence(found[1])
+            if found or like:
+                calls[name] = sequence(found[1]) if found else calls[like[1]]
     return calls
 
 
