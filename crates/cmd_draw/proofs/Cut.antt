@@ -1,14 +1,14 @@
 -- The program reads as many bytes as `bytes_for` says, and draws from them what the whole input would give.
 -- Assumes nothing.
-use mathlib.Core.Path.{_≡_, sym, ap, _∙_}
+use mathlib.Core.Path.{_≡_, ap, _∙_}
 use mathlib.Core.List.{List}
 use Prim.Native.Nat.{ℕ, _+_, _*_, _/_, _<_, min}
 use native.Mathlib.Omega.{arith}
-use lib.ListN.{length, getD, take, length-take}
+use lib.ListN.{length, take, length-take}
 use lib.Seq.{getD-take}
 use Rattle.permutation.specs.Permutations.{tabulate}
 use Rattle.permutation.proofs.Tables.{length-tabulate, tabulate-at, is-tabulate}
-use Rattle.cmd_draw.specs.Draw.{wordAt, bytesFor, wordsIn, drawFrom, drawCall}
+use Rattle.cmd_draw.specs.Draw.{wordAt, bytesFor, drawFrom, drawCall}
 
 -- a word of the first m bytes
 word-cut : (bytes : List ℕ) (m i : ℕ) → 4 * i + 3 < m → wordAt (take m bytes) i ≡ wordAt bytes i

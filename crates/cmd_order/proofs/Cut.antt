@@ -1,7 +1,7 @@
 -- The programs read at most 2,051 bytes of an order, and ask what they would ask of the whole: of 1,024 places at most the entries end
 -- with byte 2,050, so that a longer input has a surplus byte among those read, and is refused as the whole would be.
 -- Assumes nothing.
-use mathlib.Core.Path.{_≡_, refl, sym, ap, _∙_}
+use mathlib.Core.Path.{_≡_, sym, ap, _∙_}
 use mathlib.Core.List.{List, [], _∷_, _++_}
 use Prim.Native.Nat.{ℕ, _+_, _*_, _≤_}
 use native.Mathlib.Omega.{arith}
