@@ -10,13 +10,14 @@ import subprocess
 import sys
 import tempfile
 
-import door as harness
 import door_guard
 import door_labels
 import door_trouble
 import rule
 import setter
-from door import MADE, Door, made, rng, same, sheet_of
+from compare import ended, same
+from door import MADE, Door, made, rng, sheet_of
+from door import left_out as not_tried
 
 
 # ---- the whole job
@@ -325,9 +326,8 @@ def main():
             door = Door(root, scratch, shell)
             for case in tried + door_guard.WITH_STAND_INS * (not door.own_tools):
                 case(door)
-    left_out = ''.join(f'; not tried here: {what}' for what in dict.fromkeys(harness.left_out))
-    print(f'compared {harness.compared} results of the script under {" and ".join(shells)}, {harness.wrong} wrong{left_out}')
-    return harness.wrong != 0 or not shells
+    left_out = ''.join(f'; not tried here: {what}' for what in dict.fromkeys(not_tried))
+    return ended(f'results of the script under {" and ".join(shells)}', left_out)
 
 
 sys.exit(main())

@@ -8,15 +8,7 @@ import pathlib
 import re
 import sys
 
-compared = wrong = 0
-
-
-def same(is_, must, what):
-    global compared, wrong
-    compared += 1
-    if is_ != must:
-        wrong += 1
-        print(f'{what}:\n  is   {is_!r}\n  must {must!r}'[:900])
+from compare import ended, same
 
 
 def page_questions(text):
@@ -83,8 +75,7 @@ def main():
     for path in (root / 'crates').glob('*/specs/*.antt'):
         numbers |= {int(n) for n in re.findall(r'\bask(?:Each)? (\d+)\b', path.read_text(encoding='utf-8'))}
     same(numbers, set(asked), 'the definitions ask the questions of docs/API.md')
-    print(f'compared {compared} lists of questions, {wrong} wrong')
-    return wrong != 0
+    return ended('lists of questions')
 
 
 sys.exit(main())

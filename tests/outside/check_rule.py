@@ -15,20 +15,10 @@ import tempfile
 
 import rule
 import setter
+from compare import ended, same
 
 SIZES = [0, 1, 2, 3, 4, 5, 7, 8, 9, 16, 17, 31, 33, 64, 100, 255, 256, 257, 511, 513, 777, 1000, 1023, 1024]
 DAMAGED = ['', '01', '02 00', '01 81 00', '01 81 80', '01 81 08', '01 00 00', '01 03', '01 03 86', '01 03 86 00', '01 03 0e', '01 03 06 00']
-
-compared = wrong = 0
-
-
-def same(is_, must, what):
-    global compared, wrong
-    compared += 1
-    if is_ != must:
-        wrong += 1
-        if wrong <= 10:
-            print(f'{what}: is {is_!r}, must be {must!r}'[:300])
 
 
 def damaged(sheet):
@@ -228,8 +218,7 @@ def main():
         nothing_replaced(bought, 'digits')
         bought_blocks(bought, rng)
         bought_refused(bought)
-    print(f'compared {compared} results with the reader in Python, {wrong} wrong')
-    return wrong != 0
+    return ended('results with the reader in Python')
 
 
 sys.exit(main())

@@ -7,25 +7,16 @@ import stat
 import subprocess
 
 import rule
+from compare import same
 
 MADE = 0o600  # the permissions of what the script makes
 rng = random.Random(14)
-compared = wrong = 0
 left_out = []  # what cannot be tried on this machine
 
 
 def made(*months):
     """What mixing makes of each month."""
     return {f'{month}.{kind}': MADE for month in months for kind in ('mixed', 'sheet', 'label')}
-
-
-def same(is_, must, what):
-    global compared, wrong
-    compared += 1
-    if is_ != must:
-        wrong += 1
-        if wrong <= 20:
-            print(f'{what}:\n  is   {is_!r}\n  must {must!r}'[:900])
 
 
 class Door:

@@ -7,7 +7,8 @@ import signal
 import subprocess
 import time
 
-from door import MADE, left_out, made, rng, same, sheet_of
+from compare import same
+from door import MADE, left_out, made, rng, sheet_of
 
 NOBODY = {'user': 65534, 'group': 65534, 'extra_groups': []}
 

@@ -2,7 +2,8 @@
 import hashlib
 import os
 
-from door import MADE, made, rng, same, sheet_of
+from compare import same
+from door import MADE, made, rng, sheet_of
 
 
 def digest(data):

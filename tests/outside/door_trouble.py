@@ -7,7 +7,8 @@ import subprocess
 import time
 
 import rule
-from door import MADE, left_out, made, rng, same, sheet_of
+from compare import same
+from door import MADE, left_out, made, rng, sheet_of
 
 NOBODY = 65534
 
