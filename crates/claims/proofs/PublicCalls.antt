@@ -28,9 +28,9 @@ use Rattle.gauges.specs.Calls.{reportQuestions, reportOf, reportCall}
 use Rattle.wirings.specs.declared.Topology.{Topology}
 use Rattle.convert.specs.Calls.{convertQuestions, convertCall}
 use Rattle.cmd_order.specs.Orders.{countIn, entriesAt, orderIn, formQuestions, entryQuestions, orderQuestions, orderReport}
-use Rattle.claims.specs.PublicCalls.{PublicCall, logging, converting, drawing, writingSheet, readingSheet, readingNumber, readingOrder}
-use Rattle.claims.specs.PublicCalls.{reporting, fresh, fromList, exchanging, combining, inverting, askingHome}
-use Rattle.claims.specs.PublicCalls.{withRecord, asks}
+use Rattle.claims.specs.PublicCalls.{PublicCall, logging, converting, drawing, writingSheet, readingSheet}
+use Rattle.claims.specs.PublicCalls.{readingNumber, readingOrder, reporting, fresh, fromList, exchanging}
+use Rattle.claims.specs.PublicCalls.{combining, inverting, askingHome, withRecord, asks}
 use Rattle.claims.specs.Demands.{Demand1}
 use Rattle.claims.proofs.Settled.{Settles, settled-asks}
 use Rattle.claims.proofs.Demands.{call-settles}
@@ -89,13 +89,15 @@ row-numbered input = numbered-row sevens input (numbered input)
 head-numbered : (input : List ℕ) (room : ℕ) → Numbered (headQuestions input room)
 unfolding headQuestions
 head-numbered input room =
+    let at = placesAt input in
     numbered-both (numberQuestions input 0) _ (numbered input 0)
-    (omega arith, numbered-both (numberQuestions input (placesAt input)) _ (numbered input (placesAt input)) (omega arith, (omega arith, tt)))
+    (omega arith, numbered-both (numberQuestions input at) _ (numbered input at) (omega arith, (omega arith, tt)))
 
 body-numbered : (input : List ℕ) (w at : ℕ) → Numbered (bodyQuestions input w at)
 unfolding bodyQuestions
 body-numbered input w at =
-    numbered-both (numbersQuestions sevens (numbersFor w) input at) _ (row-numbered input (numbersFor w) at) (omega arith, (omega arith, tt))
+    let k = numbersFor w in
+    numbered-both (numbersQuestions sevens k input at) _ (row-numbered input k at) (omega arith, (omega arith, tt))
 
 read-settles : (input bits : List ℕ) → Settles (asks (readingSheet input bits))
 unfolding readQuestions readSheet
