@@ -50,7 +50,8 @@ left v c result b es log e n r =
     (record {
       answer = refl;
       words-are =
-          ap (λ (i : ℕ). take i (overlay log 0 (words es))) (let z : entryWords * c ≡ length (words es) = omega (arith, length-words es) in z)
+          ap (λ (i : ℕ). take i (overlay log 0 (words es)))
+          (let z : entryWords * c ≡ length (words es) = omega (arith, length-words es) in z)
           ∙ overlay-read log (words es);
       log-is = refl;
       buffer = overlay-whole b result r;
