@@ -15,7 +15,7 @@ use Rattle.gauges.specs.Calls.{reportCall}
 use Rattle.gauges.proofs.Exchanges.{report-moved, report-movedBack}
 use Rattle.claims.specs.Calls.{Direction, mixing, returning, Call, move, movedBy, outcomeOf}
 use Rattle.claims.specs.Charts.{SameReport}
-use Rattle.claims.proofs.Demands.{asked, leaves, demand1}
+use Rattle.claims.proofs.Demands.{asked, leaves, refused-outcome}
 
 module _ (t : Topology) (n : ℕ) (blocks bits log : List ℕ) (gauge : ℕ) where
   -- by the wiring alone
@@ -35,7 +35,7 @@ module _ (t : Topology) (n : ℕ) (blocks bits log : List ℕ) (gauge : ℕ) whe
 
       go : (v : Verdict) → asked c ≡ v → report (outcomeOf c .buffer) ≡ report blocks
       go allYes e = ap report (leaves c e .buffer) ∙ moves d (passes n 6 (length blocks) bits (length log) e .whole)
-      go (noAt q p) e = ap (λ (o : Logged). report (o .buffer)) (demand1 c .refuses e)
+      go (noAt q p) e = ap (λ (o : Logged). report (o .buffer)) (refused-outcome c e)
 
   pub same-report : SameReport t n blocks bits log gauge
   same-report = record { mixed = same mixing; returned = same returning }

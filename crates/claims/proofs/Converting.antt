@@ -3,15 +3,13 @@
 use mathlib.Core.Path.{_≡_, refl, sym, ap, subst, _∙_}
 use mathlib.Core.List.{List}
 use Prim.Native.Nat.{ℕ, _≤_}
-use native.Mathlib.Omega.{arith}
 use borrow.Author.Tests.{leb-true, eqb-true}
 use lib.ListN.{length}
 use Rattle.answers.specs.declared.Answer.{Answer}
 use Rattle.answers.specs.Answers.{accepted}
-use Rattle.answers.specs.Questions.{Verdict, allYes, firstNo, firstBad, Numbered}
+use Rattle.answers.specs.Questions.{Verdict, allYes, firstNo, firstBad}
 use Rattle.answers.specs.Outcomes.{Outcome, outcome}
 use Rattle.answers.proofs.Questions.{each-yes}
-use Rattle.answers.proofs.Outcomes.{accepted-when}
 use Rattle.bits.specs.Bits.{isBit}
 use Rattle.bits.proofs.Bytes.{bits-all, all-bits}
 use Rattle.counts.specs.Counts.{W}
@@ -26,11 +24,13 @@ use Rattle.wirings.specs.declared.Topology.the-variants.{Paper, Neighbour}
 use Rattle.wirings.specs.Nets.{wiringOf}
 use Rattle.wirings.proofs.Halves.{lawful}
 use Rattle.convert.specs.Calls.{across, convertQuestions, converted, convertCall}
-use Rattle.convert.proofs.Asked.{yes-all, refused, taken}
+use Rattle.convert.proofs.Asked.{yes-all, taken}
 use Rattle.claims.specs.Calls.{Direction, mixing, returning, movedBy}
 use Rattle.claims.specs.Carrying.{Setting}
-use Rattle.claims.specs.Converting.{ConvertAsks, orderIn, House, Converted}
+use Rattle.claims.specs.Converting.{orderIn, House, Converted}
+use Rattle.claims.specs.PublicCalls.{converting}
 use Rattle.claims.proofs.Carrying.{moves}
+use Rattle.claims.proofs.PublicCalls.{demand1}
 
 -- ---- the questions
 
@@ -43,10 +43,6 @@ record Fit (n : ℕ) (given out : List ℕ) : Type 0 where
 module _ (n : ℕ) (given out : List ℕ) where
   abbrev asked : Verdict
   asked = firstNo (convertQuestions n given out)
-
-  numbered : Numbered (convertQuestions n given out)
-  unfolding convertQuestions
-  numbered = (omega arith, (omega arith, (omega arith, (omega arith, tt))))
 
   yes-fit : asked ≡ allYes → Fit n given out
   unfolding convertQuestions
@@ -64,15 +60,6 @@ module _ (n : ℕ) (given out : List ℕ) where
 
   fit-yes : Fit n given out → asked ≡ allYes
   fit-yes F = yes-all n given out (F .small) (F .setting .count) (F .count) (all-bits given (F .setting .are-bits))
-
-  pub convert-asks : (from : Topology) → ConvertAsks from n given out
-  unfolding convertCall
-  convert-asks from =
-      record {
-        accepts = λ e. rw e;
-        accepted-only = accepted-when (convertQuestions n given out) 0 numbered;
-        refuses = λ e. sym (refused n given out from e refl);
-      }
 
 -- ---- what is left
 
@@ -149,5 +136,5 @@ module _ (from : Topology) (n : ℕ) (given out : List ℕ) (F : Fit n given out
 pub convert-converts : (from : Topology) (n : ℕ) (given out : List ℕ) → convertCall from n given out .answer .number ≡ 0
     → Converted from n given out (convertCall from n given out .buffer)
 convert-converts from n given out a =
-    let C = fit-converts from n given out (yes-fit n given out (convert-asks n given out from .accepted-only a)) in
+    let C = fit-converts from n given out (yes-fit n given out (demand1 (converting from n given out) .accepted-only a)) in
     subst (Converted from n given out) (sym (ap (λ (o : Outcome). o .buffer) (C .leaves))) C

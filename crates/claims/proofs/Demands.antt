@@ -1,4 +1,4 @@
--- Demands 1 and 3: one claim about the whole logs of any two accepted calls.
+-- Demand 3: one claim about the whole logs of any two accepted calls; and what demand 1 needs of the calls that keep a log.
 -- Assumes nothing.
 use mathlib.Core.Path.{_≡_, refl, sym, ap, _∙_}
 use mathlib.Core.List.{List, [], _∷_}
@@ -7,7 +7,8 @@ use lib.ListN.{length}
 use Rattle.answers.specs.declared.Answer.{Answer}
 use Rattle.answers.specs.Questions.{Verdict, noAt, allYes, firstNo, Numbered}
 use Rattle.answers.specs.Buffers.{overlay}
-use Rattle.answers.specs.Outcomes.{Logged, settledLogged}
+use Rattle.answers.specs.Answers.{refusal}
+use Rattle.answers.specs.Outcomes.{Logged, logged, settledLogged}
 use Rattle.answers.proofs.Outcomes.{accepted-when, logged-refused}
 use Rattle.counts.specs.Counts.{W, E}
 use Rattle.network.specs.Wiring.{Wiring, Lawful, paper}
@@ -44,9 +45,10 @@ use Rattle.ranks.proofs.Asked.{rank-asked, rank-numbered}
 use Rattle.claims.specs.Calls.{Direction, mixing, returning, Call, set, move, mix, return, rank, moving}
 use Rattle.claims.specs.Calls.{entriesDue, countDue, moveCall, movedBy, bitOf, described, replay, replayByRule}
 use Rattle.claims.specs.Calls.{outcomeOf, Accepted, countOf, due, dueEntries, written}
-use Rattle.claims.specs.Demands.{Demand1, Logs, Demand3}
+use Rattle.claims.specs.PublicCalls.{logging, asks}
+use Rattle.claims.specs.Demands.{Logs, Demand3}
 use Rattle.claims.proofs.Asked.{set-asked, set-numbered}
-use Rattle.claims.proofs.Settled.{Left, left}
+use Rattle.claims.proofs.Settled.{Settles, Left, left}
 
 -- ---- all that the demands need of a call
 
@@ -194,7 +196,7 @@ module _ (n width : ℕ) (blocks bits log : List ℕ) where
   unfolding inverseCall wiringOf
   paper-return = refl
 
--- ---- demand 1
+-- ---- demand 1, of a call that keeps a log (of every call: proofs/PublicCalls)
 
 pub accepted-passes : (c : Call) → Accepted c → asked c ≡ allYes
 accepted-passes c e =
@@ -209,16 +211,26 @@ leaves c e =
 pub left-right : (c : Call) → asked c ≡ allYes → described c .Right (outcomeOf c .buffer)
 left-right c e = rw (leaves c e .buffer) (laws c .right e)
 
-pub demand1 : (c : Call) → Demand1 c
-demand1 c =
+pub passes-accepted : (c : Call) → asked c ≡ allYes → Accepted c
+passes-accepted c e = ap (λ (a : Answer). a .number) (leaves c e .answer)
+
+pub refused-outcome : (c : Call) {q p : ℕ} → asked c ≡ noAt q p
+    → outcomeOf c ≡ logged (refusal q p) (described c .buffer) (described c .log)
+refused-outcome c {q} {p} e =
+    laws c .settles
+    ∙ sym
+    (logged-refused (asked c) (due c) (resultOf c) (described c .buffer) (words (dueEntries c)) (described c .log) e refl refl refl)
+
+pub call-settles : (c : Call) → Settles (asks (logging c))
+call-settles c =
+    let D = described c in
     record {
-      accepts = λ e. ap (λ (a : Answer). a .number) (leaves c e .answer);
-      accepted-only = accepted-passes c;
-      refuses = λ {q} {p} e.
-          laws c .settles
-          ∙ sym
-          (logged-refused (asked c) (due c) (resultOf c) (described c .buffer) (words (dueEntries c)) (described c .log) e refl refl refl);
-      beside-kept = laws c .kept;
+      numbered = laws c .all-numbered;
+      answers = ap (λ (o : Logged). o .answer) (laws c .settles);
+      kept = λ e.
+          ap (λ (o : Logged). o .buffer ∷ o .log ∷ D .besideLeft) (refused-outcome c e)
+          ∙ ap (λ (l : List (List ℕ)). D .buffer ∷ D .log ∷ l) (laws c .kept e);
+      given-up = λ e. refl;
     }
 
 -- ---- demand 3

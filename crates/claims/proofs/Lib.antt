@@ -1,6 +1,7 @@
 pub mod Asked
 pub mod Settled
 pub mod Demands
+pub mod PublicCalls
 pub mod Positions
 pub mod Carrying
 pub mod Month

@@ -25,7 +25,7 @@ use Rattle.claims.specs.Calls.{Call, set, rank, described, outcomeOf, Ac
 use Rattle.claims.specs.Demands.{Alike}
 use Rattle.claims.specs.Ranks.{AsSet, RoomToRank, Treated}
 use Rattle.claims.proofs.Asked.{set-passes}
-use Rattle.claims.proofs.Demands.{asked, accepted-passes, leaves, left-right, demand1, demand3}
+use Rattle.claims.proofs.Demands.{asked, accepted-passes, passes-accepted, leaves, left-right, demand3}
 
 module _ (n r : ℕ) (list bits log : List ℕ) (a : Accepted (rank n r list bits log)) where
   abbrev ranks : Call
@@ -52,7 +52,7 @@ module _ (n r : ℕ) (list bits log : List ℕ) (a : Accepted (rank n r list bit
       })
 
   set-accepted : Accepted (sets bits log)
-  set-accepted = demand1 (sets bits log) .accepts set-yes
+  set-accepted = passes-accepted (sets bits log) set-yes
 
   listed : described ranks .besideLeft ≡ overlay list 0 (orderAt n r) ∷ []
   unfolding rankedCall
@@ -117,7 +117,7 @@ module _ (n : ℕ) (order : List ℕ) (small : n ≤ 6) (O : IsPermutation n ord
 
     order-left : described call .besideLeft ≡ overlay list 0 order ∷ []
     order-left =
-        as-set n (once .rank) list bits log (demand1 call .accepts call-yes) .listed
+        as-set n (once .rank) list bits log (passes-accepted call call-yes) .listed
         ∙ ap (λ (l : List ℕ). overlay list 0 l ∷ []) (once .listed)
 
     setting-left : Canonical paper (network n) order (outcomeOf call .buffer)

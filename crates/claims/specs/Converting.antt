@@ -4,8 +4,7 @@ use mathlib.Core.Path.{_≡_}
 use mathlib.Core.List.{List}
 use Prim.Native.Nat.{ℕ}
 use lib.ListN.{length}
-use Rattle.answers.specs.Answers.{refusal, accepted}
-use Rattle.answers.specs.Questions.{noAt, allYes, firstNo}
+use Rattle.answers.specs.Answers.{accepted}
 use Rattle.answers.specs.Outcomes.{outcome}
 use Rattle.counts.specs.Counts.{W}
 use Rattle.network.specs.Network.{network}
@@ -14,17 +13,9 @@ use Rattle.permutation.specs.Permutations.{IsPermutation}
 use Rattle.canonical.specs.Rule.{Canonical}
 use Rattle.wirings.specs.declared.Topology.{Topology}
 use Rattle.wirings.specs.Nets.{wiringOf}
-use Rattle.convert.specs.Calls.{across, convertQuestions, convertCall}
+use Rattle.convert.specs.Calls.{across, convertCall}
 use Rattle.claims.specs.Calls.{Direction, Call, move, outcomeOf, Accepted}
 use Rattle.claims.specs.Carrying.{Setting, Filled, RoomToMove}
-
--- demand 1, of any call of the converter: it is accepted exactly when every question gets a yes; refused, it names the first
--- question that gets a no and leaves `out` as it was
-pub record ConvertAsks (from : Topology) (n : ℕ) (given out : List ℕ) : Type 0 where
-  pub accepts : firstNo (convertQuestions n given out) ≡ allYes → convertCall from n given out .answer .number ≡ 0
-  pub accepted-only : convertCall from n given out .answer .number ≡ 0 → firstNo (convertQuestions n given out) ≡ allYes
-  pub refuses : {q p : ℕ} → firstNo (convertQuestions n given out) ≡ noAt q p
-      → convertCall from n given out ≡ outcome (refusal q p) out
 
 -- the order that a setting carries in a wiring; and the house setting, in a wiring, of an order
 abbrev pub orderIn : Topology → ℕ → List ℕ → List ℕ

@@ -1,24 +1,27 @@
--- Demands 1 and 3, as statements about the outcomes of calls.
+-- Demands 1 and 3, as statements about the outcomes of calls: 1 of every public call, 3 of those that keep a log.
 -- Assumes nothing: these are definitions.
 use mathlib.Core.Path.{_≡_}
 use Prim.Native.Nat.{ℕ}
 use lib.ListN.{length}
-use Rattle.answers.specs.Answers.{refusal}
+use Rattle.answers.specs.Answers.{refusal, accepted}
 use Rattle.answers.specs.Questions.{noAt, allYes, firstNo}
 use Rattle.answers.specs.Buffers.{overlay}
-use Rattle.answers.specs.Outcomes.{logged}
 use Rattle.network.specs.Log.{words, entries}
-use Rattle.claims.specs.Calls.{Call, described, replay, replayByRule, outcomeOf, wiringOfCall, Accepted}
+use Rattle.claims.specs.Calls.{Call, described, replay, replayByRule, outcomeOf, wiringOfCall}
 use Rattle.claims.specs.Calls.{countOf, due, dueEntries, written}
+use Rattle.claims.specs.PublicCalls.{Asks}
 
--- demand 1, of one call: it is accepted exactly when every question gets a yes; refused, it names the first question that
--- gets a no and leaves all lent memory as it was
-pub record Demand1 (c : Call) : Type 0 where
-  pub accepts : firstNo (described c .questions) ≡ allYes → Accepted c
-  pub accepted-only : Accepted c → firstNo (described c .questions) ≡ allYes
-  pub refuses : {q p : ℕ} → firstNo (described c .questions) ≡ noAt q p
-      → outcomeOf c ≡ logged (refusal q p) (described c .buffer) (described c .log)
-  pub beside-kept : {q p : ℕ} → firstNo (described c .questions) ≡ noAt q p → described c .besideLeft ≡ described c .beside
+-- demand 1, of one public call
+pub record Demand1 (a : Asks) : Type 0 where
+  -- it is accepted exactly when every question gets a yes: number 0, place 0, and its count
+  pub accepts : firstNo (a .questions) ≡ allYes → a .answer ≡ accepted (a .count)
+  pub accepted-only : a .answer .number ≡ 0 → firstNo (a .questions) ≡ allYes
+  -- refused, it names the first question that gets a no, with its place and count 0
+  pub refuses : {q p : ℕ} → firstNo (a .questions) ≡ noAt q p → a .answer ≡ refusal q p
+  -- it leaves all lent memory as it was
+  pub leaves-lent : {q p : ℕ} → firstNo (a .questions) ≡ noAt q p → a .left ≡ a .lent
+  -- and beside the answer stands 0 for each number, or the first record handed in or that of length 0
+  pub gives-nothing : {q p : ℕ} → firstNo (a .questions) ≡ noAt q p → a .beside ≡ a .besideRefused
 
 -- what holds of the whole log of one accepted call
 pub record Logs (c : Call) : Type 0 where

@@ -1,4 +1,5 @@
 pub mod Calls
+pub mod PublicCalls
 pub mod Demands
 pub mod Positions
 pub mod Carrying
