@@ -10,9 +10,12 @@ use Rattle.shuffle_words.specs.declared.Choice.{Choice}
 use Rattle.shuffle_words.specs.declared.Choice.the-variants.{Enough, RunOut}
 use Rattle.shuffle_words.specs.Words.{chosen}
 
--- 18: are there words enough to draw the last place?
+-- 02, F-5: '18, when the words run out before the last place is drawn'
+abbrev pub wordsLast : (n : ℕ) (words : List ℕ) → Question
+wordsLast n words = ask 18 0 (chosen n words .enough)
+
 abbrev pub supplyAsks : ℕ → List ℕ → List Question
-supplyAsks n words = ask 18 0 (chosen n words .enough) ∷ []
+supplyAsks n words = wordsLast n words ∷ []
 
 -- the cases: a yes and the number of words used, or 18
 abbrev pub verdictOf : Choice → Verdict
