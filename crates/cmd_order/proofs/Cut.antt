@@ -9,7 +9,7 @@ use lib.Dec.{leb}
 use lib.ListN.{length, take}
 use lib.Seq.{length-take-le}
 use borrow.Author.Tests.{lt-leb, leb-true}
-use Rattle.answers.specs.Questions.{Question, ask, allYes, noAt, firstNo}
+use Rattle.answers.specs.Questions.{Question, allYes, noAt, firstNo}
 use Rattle.answers.proofs.Questions.{asked-no, passed, both-pass}
 use Rattle.numbers.specs.Numbers.{numberQuestions, NumberAnswer, numberAt, sevens}
 use Rattle.numbers.proofs.Reach.{place-near, asked-alike, read-alike}
