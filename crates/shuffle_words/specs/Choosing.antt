@@ -4,16 +4,13 @@ use mathlib.Core.Path.{_≡_}
 use mathlib.Core.List.{List, [], _∷_}
 use Prim.Native.Nat.{ℕ}
 use lib.ListN.{take}
-use Rattle.answers.specs.Questions.{Question, ask, Verdict, allYes, noAt, firstNo}
+use Rattle.answers.specs.Questions.{Question, Verdict, allYes, noAt, firstNo}
 use Rattle.answers.specs.Outcomes.{besideOf}
 use Rattle.shuffle_words.specs.declared.Choice.{Choice}
 use Rattle.shuffle_words.specs.declared.Choice.the-variants.{Enough, RunOut}
-use Rattle.shuffle_words.specs.Words.{chosen}
+use Rattle.shuffle_words.specs.Words.{chosen, wordsLast}
 
--- 02, F-5: '18, when the words run out before the last place is drawn'
-abbrev pub wordsLast : (n : ℕ) (words : List ℕ) → Question
-wordsLast n words = ask 18 0 (chosen n words .enough)
-
+-- 18
 abbrev pub supplyAsks : ℕ → List ℕ → List Question
 supplyAsks n words = wordsLast n words ∷ []
 
