@@ -9,7 +9,7 @@ ghost use Rattle.apply_questions.specs.Questions.{applyQuestions};
 pub fn ask(n: usize, width: usize, filled: usize, bits: &[u8], room: usize) -> answers::Answer
     ensures { λ r. ⌜ r ≡ answerOf (firstNo (applyQuestions n width filled (now (bits .entry)) room)) 0 ⌝ }
 {
-    if 1024 < n {
+    if counts::MOST_PLACES < n {
         return answers::refuse(1, 0);
     }
     if width < 1 {

@@ -202,7 +202,7 @@ pub extern "C" fn lomuveran_gauge_report(
 pub extern "C" fn lomuveran_switches(n: usize) -> CAnswer
     ensures { λ r. ⌜ answerIn r ≡ counted W n ⌝ }
 {
-    if 1024 < n {
+    if counts::MOST_PLACES < n {
         return capi_values::tell(answers::refuse(1, 0));
     }
     capi_values::tell(answers::accept(counts::switches(n)))
@@ -213,7 +213,7 @@ pub extern "C" fn lomuveran_switches(n: usize) -> CAnswer
 pub extern "C" fn lomuveran_entries(n: usize) -> CAnswer
     ensures { λ r. ⌜ answerIn r ≡ counted E n ⌝ }
 {
-    if 1024 < n {
+    if counts::MOST_PLACES < n {
         return capi_values::tell(answers::refuse(1, 0));
     }
     capi_values::tell(answers::accept(counts::entries(n)))

@@ -3,15 +3,16 @@
 use mathlib.Core.Bool.{true, false}
 use mathlib.Core.List.{List, [], _∷_}
 use Prim.Native.Nat.{ℕ}
-use lib.Dec.{eqb, leb}
+use lib.Dec.{eqb}
 use lib.ListN.{length, getD}
 use Rattle.answers.specs.declared.Answer.{Answer}
-use Rattle.answers.specs.Questions.{ask, firstNo}
+use Rattle.answers.specs.Questions.{firstNo}
 use Rattle.answers.specs.Outcomes.{answerOf}
 use Rattle.gauges.specs.declared.Figures.{Figures}
 use Rattle.gauges.specs.declared.GaugeReport.{GaugeReport}
 use Rattle.numbers.specs.Numbers.{NumberAnswer}
 use Rattle.permutation.specs.Permutations.{tabulate}
+use Rattle.questions.specs.Asked.{placesFew}
 use Rattle.permutation_record.specs.declared.Permutation.{Permutation}
 use Rattle.permutation_record.specs.declared.Reply.{Reply}
 use Rattle.shuffle.specs.declared.Drawn.{Drawn}
@@ -52,7 +53,7 @@ reportIn r = record { answer = answerIn (r .answer); figures = figuresIn r }
 
 -- an asking of a count of n places: question 1, then the count
 abbrev pub counted : (ℕ → ℕ) → ℕ → Answer
-counted count n = answerOf (firstNo (ask 1 0 (leb n 1024) ∷ [])) (count n)
+counted count n = answerOf (firstNo (placesFew n ∷ [])) (count n)
 
 -- ---- permutations: a slice of entries with its number is the record
 

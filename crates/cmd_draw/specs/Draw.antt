@@ -5,10 +5,11 @@ use mathlib.Core.List.{List, [], _∷_}
 use Prim.Native.Nat.{ℕ, _+_, _*_, _/_, min}
 use lib.Dec.{leb}
 use lib.ListN.{length, getD}
-use Rattle.answers.specs.Questions.{Question, ask, firstNo}
+use Rattle.answers.specs.Questions.{Question, firstNo}
 use Rattle.answers.specs.Outcomes.{Outcome, settled}
 use Rattle.permutation.specs.Permutations.{tabulate}
-use Rattle.shuffle_words.specs.Words.{chosen}
+use Rattle.questions.specs.Asked.{placesFew}
+use Rattle.shuffle_words.specs.Words.{wordsLast}
 use Rattle.shuffle.specs.Shuffled.{orderFrom}
 use Rattle.numbers.specs.Numbers.{sevens}
 use Rattle.rows.specs.Rows.{numbersBytes}
@@ -36,7 +37,7 @@ orderBytes order = numbersBytes sevens (length order ∷ order)
 
 -- draw's questions 1 and 18; its 13 gets a yes always, since there is room for every order
 unfoldable pub drawQuestions : ℕ → List ℕ → List Question
-drawQuestions n words = ask 1 0 (leb n 1024) ∷ ask 18 0 (chosen n words .enough) ∷ []
+drawQuestions n words = placesFew n ∷ wordsLast n words ∷ []
 
 -- the order that words draw over the front of the output, and as count its bytes
 unfoldable pub drawFrom : ℕ → List ℕ → List ℕ → Outcome

@@ -41,7 +41,11 @@ fn draw_words(n: usize, words: &[u32], out: &mut [u8]) -> Answer
 pub fn bytes_for(n: usize) -> usize
     ensures { λ r. ⌜ (r ≡ bytesFor n) × (r ≤ 4352) ⌝ }
 {
-    if n <= 1024 { 4 * (n + SPARE) } else { 0 }
+    if n <= counts::MOST_PLACES {
+        4 * (n + SPARE)
+    } else {
+        0
+    }
 }
 
 fn least(a: usize, b: usize) -> usize

@@ -3,19 +3,21 @@
 -- whatever stands behind it.
 -- Assumes nothing.
 use mathlib.Core.Path.{_≡_, refl, sym, ap, _∙_}
-use mathlib.Core.List.{List, [], _∷_}
+use mathlib.Core.Bool.{true}
+use mathlib.Core.List.{List}
 use Prim.Native.Nat.{ℕ, _≤_, _<_}
 use native.Mathlib.Omega.{arith}
 use native.Mathlib.Decide.{decLt}
-use lib.Dec.{leb}
 use lib.ListN.{length, take}
 use lib.Seq.{length-take-le, take-all}
-use borrow.Author.Tests.{le-leb, lt-leb}
-use Rattle.answers.specs.Questions.{Question, ask, Verdict, allYes, noAt, firstNo}
+use Rattle.answers.specs.Questions.{Verdict, allYes, noAt, firstNo}
 use Rattle.answers.specs.Buffers.{Put}
-use Rattle.answers.proofs.Questions.{asked-yes, asked-no, asked-both, asked-first}
+use Rattle.answers.proofs.Questions.{yes-each, asked-both, asked-first}
 use Rattle.numbers.specs.Numbers.{numberQuestions, NumberAnswer, sevens, Reads}
 use Rattle.numbers.proofs.Reach.{place-small, asked-alike, read-alike}
+use Rattle.questions.specs.Asked.{listable}
+use Rattle.questions.proofs.Lists.{first-no}
+use Rattle.questions.proofs.Asked.{listable-yes, listable-no, end-yes, end-no}
 use Rattle.cmd_lines.specs.Text.{refusalLine}
 use Rattle.cmd_lines.specs.Written.{written}
 use Rattle.cmd_lines.proofs.Written.{text-written}
@@ -41,31 +43,26 @@ module _ (input : List ℕ) where
   no-number e = text-of (asked-first (numberQuestions input 0) (lengthQuestions input) e)
 
   module _ {n next : ℕ} (N : Reads sevens input 0 n next) where
-    last : List Question
-    last = ask 12 (pastLength input) (leb (length input) (pastLength input)) ∷ []
-
-    past-number : {v : Verdict} → firstNo (ask 17 0 (leb (lengthIn input) 6) ∷ last) ≡ v → ordersText input ≡ textOf v input
-    unfolding listQuestions last
+    past-number : {v : Verdict} → firstNo (lengthQuestions input) ≡ v → ordersText input ≡ textOf v input
+    unfolding listQuestions
     past-number e = text-of (asked-both (numberQuestions input 0) (lengthQuestions input) (N .asked) ∙ e)
 
     pub too-long : 6 < n → ordersText input ≡ refusalLine 17 0
-    too-long h = past-number (asked-no 17 0 (leb (lengthIn input) 6) last (lt-leb (lengthIn input) 6 (omega (arith, N .value))))
+    too-long h = past-number (first-no 0 (lengthQuestions input) (listable-no (lengthIn input) (omega (arith, N .value))))
 
     module _ (short : n ≤ 6) where
-      past-length : {v : Verdict} → firstNo last ≡ v → ordersText input ≡ textOf v input
-      past-length e = past-number (asked-yes 17 0 (leb (lengthIn input) 6) last (le-leb (lengthIn input) 6 (omega (arith, N .value))) ∙ e)
+      asked : listable (lengthIn input) .yes ≡ true
+      asked = listable-yes (lengthIn input) (omega (arith, N .value))
 
       pub surplus : next < length input → ordersText input ≡ refusalLine 12 next
-      unfolding last
       surplus h =
-          let goes-on = lt-leb (length input) (pastLength input) (omega (arith, N .next)) in
-          past-length (asked-no 12 (pastLength input) (leb (length input) (pastLength input)) [] goes-on) ∙ ap (refusalLine 12) (N .next)
+          let goes-on = end-no (pastLength input) input (omega (arith, N .next)) in
+          past-number (first-no 1 (lengthQuestions input) (asked, goes-on)) ∙ ap (refusalLine 12) (N .next)
 
       pub all-orders : length input ≤ next → ordersText input ≡ ordersOf n
-      unfolding last
       all-orders h =
-          let ends = le-leb (length input) (pastLength input) (omega (arith, N .next)) in
-          past-length (asked-yes 12 (pastLength input) (leb (length input) (pastLength input)) [] ends) ∙ ap ordersOf (N .value)
+          let ends = end-yes (pastLength input) input (omega (arith, N .next)) in
+          past-number (yes-each (lengthQuestions input) (asked, (ends, tt))) ∙ ap ordersOf (N .value)
 
 -- ---- two bytes are enough
 

@@ -2,10 +2,9 @@
 -- Assumes nothing: these are definitions.
 use mathlib.Core.List.{List, [], _∷_, _++_}
 use Prim.Native.Nat.{ℕ, zero, suc}
-use lib.Dec.{leb}
-use lib.ListN.{length}
-use Rattle.answers.specs.Questions.{Question, ask, Verdict, allYes, noAt, firstNo}
+use Rattle.answers.specs.Questions.{Question, Verdict, allYes, noAt, firstNo}
 use Rattle.network.specs.Wiring.{paper}
+use Rattle.questions.specs.Asked.{endsAt, listable}
 use Rattle.steps.specs.Setting.{settingFor}
 use Rattle.numbers.specs.Numbers.{numberQuestions, numberAt}
 use Rattle.ranks_order.specs.Ranks.{factorial, orderAt}
@@ -40,9 +39,7 @@ pastLength input = numberAt input 0 .next
 -- 17, 12
 abbrev pub lengthQuestions : List ℕ → List Question
 lengthQuestions input =
-    ask 17 0 (leb (lengthIn input) 6)
-    ∷ ask 12 (pastLength input) (leb (length input) (pastLength input))
-    ∷ []
+    listable (lengthIn input) ∷ endsAt (pastLength input) input ∷ []
 
 -- 8, 9 for the number; then 17, 12
 unfoldable pub listQuestions : List ℕ → List Question

@@ -9,25 +9,26 @@ use lib.Dec.{leb}
 use lib.ListN.{length, take}
 use lib.Seq.{length-take-le}
 use borrow.Author.Tests.{lt-leb, leb-true}
-use Rattle.answers.specs.Questions.{Question, ask, allYes, noAt, firstNo}
+use Rattle.answers.specs.Questions.{Question, allYes, noAt, firstNo}
 use Rattle.answers.proofs.Questions.{asked-no, passed, both-pass}
 use Rattle.numbers.specs.Numbers.{numberQuestions, NumberAnswer, numberAt, sevens}
 use Rattle.numbers.proofs.Reach.{place-near, asked-alike, read-alike}
 use Rattle.rows.specs.Rows.{numbersQuestions}
 use Rattle.rows.proofs.Reach.{both-alike, one-alike, SameNo, same-no, row-near, row-asked, row-place}
+use Rattle.questions.specs.Asked.{placesFew, endsAt}
 use Rattle.cmd_order.specs.Orders.{orderRoom, countIn, entriesAt, orderIn, endOf, formQuestions, entryQuestions, orderQuestions}
 use Rattle.cmd_order.proofs.Asking.{places-small}
 
 -- ---- the questions in their parts
 
 abbrev endAsked : List ℕ → List Question
-endAsked input = ask 12 (endOf input) (leb (length input) (endOf input)) ∷ []
+endAsked input = endsAt (endOf input) input ∷ []
 
 abbrev rowAsked : List ℕ → List Question
 rowAsked input = numbersQuestions sevens (countIn input) input (entriesAt input)
 
 abbrev sizeAsked : List ℕ → List Question
-sizeAsked input = ask 1 0 (leb (countIn input) 1024) ∷ (rowAsked input ++ endAsked input)
+sizeAsked input = placesFew (countIn input) ∷ (rowAsked input ++ endAsked input)
 
 -- ---- an order of 1,024 places at most ends with byte 2,050
 
@@ -74,7 +75,7 @@ module _ (input : List ℕ) (long : 2051 ≤ length input) where
 
   size-alike : firstNo (sizeAsked cut) ≡ firstNo (sizeAsked input)
   size-alike =
-      ap (λ n. firstNo (ask 1 0 (leb n 1024) ∷ (rowAsked cut ++ endAsked cut))) count
+      ap (λ n. firstNo (placesFew n ∷ (rowAsked cut ++ endAsked cut))) count
       ∙ one-alike 1 0 (leb (countIn input) 1024) (rowAsked cut ++ endAsked cut) (rowAsked input ++ endAsked input)
       (λ y.
       let few = leb-true (countIn input) 1024 y in

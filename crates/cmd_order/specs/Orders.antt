@@ -2,13 +2,11 @@
 -- Assumes nothing: these are definitions.
 use mathlib.Core.List.{List, [], _∷_, _++_}
 use Prim.Native.Nat.{ℕ}
-use lib.Dec.{leb}
-use lib.ListN.{length}
-use Rattle.answers.specs.Questions.{Question, ask, askEach, Verdict, firstNo}
+use Rattle.answers.specs.Questions.{Question, Verdict, firstNo}
 use Rattle.answers.specs.Outcomes.{besideOf, Outcome, settled}
 use Rattle.counts.specs.Counts.{E}
 use Rattle.network.specs.Wiring.{paper}
-use Rattle.permutation.specs.Permutations.{goodEntry}
+use Rattle.questions.specs.Asked.{placesFew, anOrder, endsAt}
 use Rattle.steps.specs.Setting.{settingFor}
 use Rattle.numbers.specs.Numbers.{numberQuestions, numberAt, sevens}
 use Rattle.rows.specs.Rows.{numbersQuestions, numbersAt, placePast}
@@ -38,13 +36,13 @@ orderRoom = 2051
 unfoldable pub formQuestions : List ℕ → List Question
 formQuestions input =
     numberQuestions input 0
-    ++ (ask 1 0 (leb (countIn input) 1024)
+    ++ (placesFew (countIn input)
     ∷ (numbersQuestions sevens (countIn input) input (entriesAt input)
-    ++ (ask 12 (endOf input) (leb (length input) (endOf input))
+    ++ (endsAt (endOf input) input
     ∷ [])))
 
 abbrev pub entryQuestions : List ℕ → List Question
-entryQuestions order = askEach 6 (goodEntry (length order) order) (length order) ∷ []
+entryQuestions order = anOrder order ∷ []
 
 unfoldable pub orderQuestions : List ℕ → List Question
 orderQuestions input = formQuestions input ++ entryQuestions (orderIn input)

@@ -36,7 +36,7 @@ fn read_order(input: &[u8], order: &mut [u16]) -> ReadNumber
     let ReadNumber::Number(n, at) = count else {
         return count;
     };
-    if 1024 < n {
+    if counts::MOST_PLACES < n {
         return ReadNumber::Refused(1, 0);
     }
     let entries = rows::read_row(input, at, n, order);

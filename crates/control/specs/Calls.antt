@@ -1,25 +1,24 @@
 -- 01: set. Its questions, and what the whole call comes to, in each wiring (02, F-6) and in the paper's.
 -- Assumes nothing: these are definitions.
 use mathlib.Core.List.{List, [], _∷_}
-use Prim.Native.Nat.{ℕ, _*_}
-use lib.Dec.{leb, eqb}
+use Prim.Native.Nat.{ℕ}
 use lib.ListN.{length}
-use Rattle.answers.specs.Questions.{Question, ask, askEach, firstNo}
+use Rattle.answers.specs.Questions.{Question, firstNo}
 use Rattle.answers.specs.Outcomes.{Logged, settledLogged}
-use Rattle.counts.specs.Counts.{W, E}
+use Rattle.counts.specs.Counts.{E}
 use Rattle.network.specs.Wiring.{Wiring, paper}
-use Rattle.network.specs.Log.{entryWords, words}
-use Rattle.permutation.specs.Permutations.{goodEntry}
+use Rattle.network.specs.Log.{words}
+use Rattle.questions.specs.Asked.{placesFew, bitsFor, logFor, anOrder}
 use Rattle.steps.specs.Sequence.{setEntries}
 use Rattle.steps.specs.Setting.{settingFor}
 
 -- 1, 4, 5, 6
-abbrev pub setQuestions : List ℕ → List ℕ → List ℕ → List Question
+abbrev pub setQuestions : (order bits log : List ℕ) → List Question
 setQuestions order bits log =
-    ask 1 0 (leb (length order) 1024)
-    ∷ ask 4 0 (eqb (length bits) (W (length order)))
-    ∷ ask 5 0 (leb (entryWords * E (length order)) (length log))
-    ∷ askEach 6 (goodEntry (length order) order) (length order)
+    placesFew (length order)
+    ∷ bitsFor (length order) bits
+    ∷ logFor (E (length order)) (length log)
+    ∷ anOrder order
     ∷ []
 
 -- the bits left by running the entries from the order; the entries as words; the count of them

@@ -24,7 +24,7 @@ pub fn control_bits_in(
         ≡ setCallIn (wiringOf t) (now (order .entry)) (now (bits .entry)) (now (log .entry)) ⌝ }
 {
     let n = order.len();
-    if 1024 < n {
+    if counts::MOST_PLACES < n {
         return answers::refuse(1, 0);
     }
     if bits.len() != counts::switches(n) {

@@ -1,15 +1,15 @@
--- The questions of the converter, answered one after the other, and what the call comes to then.
+-- What the converter comes to, from its questions.
 -- Assumes nothing.
 use mathlib.Core.Path.{_≡_, refl, sym, ap, _∙_}
-use mathlib.Core.List.{List, [], _∷_}
-use Prim.Native.Nat.{ℕ, _≤_, _<_}
-use borrow.Author.Tests.{le-leb, lt-leb, eq-eqb, ne-eqb}
+use mathlib.Core.List.{List}
+use Prim.Native.Nat.{ℕ, _≤_}
 use lib.ListN.{length, take}
 use Rattle.answers.specs.declared.Answer.{Answer}
 use Rattle.answers.specs.Answers.{refusal, accepted}
-use Rattle.answers.specs.Questions.{Verdict, allYes, noAt, firstNo, firstBad, askEach}
+use Rattle.answers.specs.Questions.{Verdict, allYes, noAt, firstNo, firstBad}
 use Rattle.answers.specs.Outcomes.{outcome}
 use Rattle.answers.specs.Buffers.{overlay}
+use Rattle.answers.proofs.Questions.{yes-each}
 use Rattle.answers.proofs.Buffers.{overlay-whole}
 use Rattle.answers.proofs.Outcomes.{ends-refused, ends-accepted}
 use Rattle.bits.specs.Bits.{isBit}
@@ -17,6 +17,7 @@ use Rattle.counts.specs.Counts.{W}
 use Rattle.network.specs.Blocks.{orderOf}
 use Rattle.network.proofs.Order.{length-order}
 use Rattle.permutation.specs.Permutations.{IsPermutation}
+use Rattle.questions.proofs.Asked.{few-yes, count-yes, bits-yes}
 use Rattle.canonical.proofs.Orders.{order-permutation}
 use Rattle.steps.specs.Setting.{settingFor}
 use Rattle.wirings.specs.declared.Topology.{Topology}
@@ -29,33 +30,9 @@ module _ (n : ℕ) (given out : List ℕ) where
   abbrev verdict : Verdict
   verdict = firstNo (convertQuestions n given out)
 
-  pub no1 : 1024 < n → verdict ≡ noAt 1 0
+  pub yes-all : n ≤ 1024 → length given ≡ W n → length out ≡ W n → firstBad (isBit given) (length given) ≡ length given → verdict ≡ allYes
   unfolding convertQuestions
-  no1 h = rw (lt-leb n 1024 h)
-
-  module _ (h1 : n ≤ 1024) where
-    pub no4-given : (length given ≡ W n → ⊥) → verdict ≡ noAt 4 0
-    unfolding convertQuestions
-    no4-given h = rw (le-leb n 1024 h1, ne-eqb (length given) (W n) h)
-
-    module _ (h4 : length given ≡ W n) where
-      pub no4-out : (length out ≡ W n → ⊥) → verdict ≡ noAt 4 0
-      unfolding convertQuestions
-      no4-out h = rw (le-leb n 1024 h1, eq-eqb (length given) (W n) h4, ne-eqb (length out) (W n) h)
-
-      module _ (h4′ : length out ≡ W n) where
-        abbrev bad : ℕ
-        bad = firstBad (isBit given) (length given)
-
-        last : verdict ≡ firstNo (askEach 7 (isBit given) (length given) ∷ [])
-        unfolding convertQuestions
-        last = rw (le-leb n 1024 h1, eq-eqb (length given) (W n) h4, eq-eqb (length out) (W n) h4′)
-
-        pub no7 : (bad ≡ length given → ⊥) → verdict ≡ noAt 7 bad
-        no7 h = last ∙ rw (ne-eqb bad (length given) h)
-
-        pub yes-all : bad ≡ length given → verdict ≡ allYes
-        yes-all h = last ∙ rw (eq-eqb bad (length given) h)
+  yes-all h1 h4 h4′ h7 = yes-each (convertQuestions n given out) (few-yes n h1, (count-yes n given h4, (count-yes n out h4′, (bits-yes given h7, tt))))
 
   module _ (from : Topology) {a : Answer} where
     -- a refused call: nothing is written

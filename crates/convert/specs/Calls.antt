@@ -2,13 +2,10 @@
 -- Assumes nothing: these are definitions.
 use mathlib.Core.List.{List, [], _∷_}
 use Prim.Native.Nat.{ℕ}
-use lib.Dec.{leb, eqb}
-use lib.ListN.{length}
-use Rattle.answers.specs.Questions.{Question, ask, askEach, firstNo}
+use Rattle.answers.specs.Questions.{Question, firstNo}
 use Rattle.answers.specs.Outcomes.{Outcome, settled}
-use Rattle.bits.specs.Bits.{isBit}
-use Rattle.counts.specs.Counts.{W}
 use Rattle.network.specs.Blocks.{orderOf}
+use Rattle.questions.specs.Asked.{placesFew, bitsFor, allBits}
 use Rattle.steps.specs.Setting.{settingFor}
 use Rattle.wirings.specs.declared.Topology.{Topology}
 use Rattle.wirings.specs.declared.Topology.the-variants.{Paper, Neighbour}
@@ -20,12 +17,12 @@ across Paper = Neighbour
 across Neighbour = Paper
 
 -- 1, 4 of the given setting, 4 of the one to be written, 7
-unfoldable pub convertQuestions : ℕ → List ℕ → List ℕ → List Question
+unfoldable pub convertQuestions : (n : ℕ) (given out : List ℕ) → List Question
 convertQuestions n given out =
-    ask 1 0 (leb n 1024)
-    ∷ ask 4 0 (eqb (length given) (W n))
-    ∷ ask 4 0 (eqb (length out) (W n))
-    ∷ askEach 7 (isBit given) (length given)
+    placesFew n
+    ∷ bitsFor n given
+    ∷ bitsFor n out
+    ∷ allBits given
     ∷ []
 
 -- the setting of the other wiring for the order that the given one carries in its own

@@ -20,7 +20,7 @@ fn other_wiring(t: wirings::Topology) -> wirings::Topology
 pub fn convert(from: wirings::Topology, n: usize, given: &[u8], out: &mut [u8]) -> answers::Answer
     ensures { λ r. ⌜ outcome r (now (out .exit)) ≡ convertCall from n (now (given .entry)) (now (out .entry)) ⌝ }
 {
-    if 1024 < n {
+    if counts::MOST_PLACES < n {
         return answers::refuse(1, 0);
     }
     let due = counts::switches(n);

@@ -57,7 +57,7 @@ pub fn examine(n: usize, e: &[u16], fixed: usize) -> answers::Answer
     requires { ⌜ length (now e) ≡ 1024 ⌝ }
     ensures { λ r. ⌜ r ≡ answerOf (firstNo (recordAsks n (now (e .entry)) fixed)) 0 ⌝ }
 {
-    if 1024 < n {
+    if counts::MOST_PLACES < n {
         return answers::refuse(1, 0);
     }
     let low = first_bad(n, e);

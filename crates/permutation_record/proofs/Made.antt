@@ -5,17 +5,18 @@ use mathlib.Core.Bool.{_&&_}
 use mathlib.Core.List.{List, [], _∷_, _++_}
 use Prim.Native.Nat.{ℕ, _≤_}
 use native.Mathlib.Omega.{arith}
-use lib.Dec.{leb, ltb, eqb}
+use lib.Dec.{ltb, eqb}
 use lib.ListN.{length}
-use borrow.Author.Tests.{leb-true, ltb-true, eqb-true}
+use borrow.Author.Tests.{ltb-true, eqb-true}
 use Rattle.answers.specs.Answers.{accepted}
-use Rattle.answers.specs.Questions.{Question, ask, askEach, allYes, firstNo, Numbered}
+use Rattle.answers.specs.Questions.{Question, ask, allYes, firstNo, Numbered}
 use Rattle.answers.proofs.Outcomes.{numbered-both, accepted-when}
-use Rattle.answers.proofs.Questions.{passed, both-pass}
-use Rattle.permutation.specs.Permutations.{IsPermutation, goodEntry, firstBadEntry, identity, exchanged, combined, inverted, fixedPoints}
-use Rattle.permutation.proofs.Permutations.{both-true, passes-permutation}
+use Rattle.answers.proofs.Questions.{passed, each-yes, both-pass}
+use Rattle.permutation.specs.Permutations.{IsPermutation, identity, exchanged, combined, inverted, fixedPoints}
+use Rattle.permutation.proofs.Permutations.{both-true}
 use Rattle.permutation.proofs.Laws.{identity-permutation, exchanged-permutation, combined-permutation}
 use Rattle.permutation.proofs.Inverses.{inverted-permutation}
+use Rattle.questions.proofs.Asked.{few-means, order-means}
 use Rattle.permutation_record.specs.Records.{recordOf, listOf, lengthAsks, questionsOf, exchangeAsks, combineAsks}
 use Rattle.permutation_record.specs.Records.{fromListAsks, recordAfter, replied, reply, identityCall, fromListCall}
 use Rattle.permutation_record.specs.Records.{exchangeCall, combineCall, inverseCall, fixedPointsCall}
@@ -48,16 +49,14 @@ whole-of n es P h e =
 
 pub identity-gives : (n : ℕ) {p : Permutation} → Gives (identityCall n) p → Whole p
 identity-gives n g =
-    let G = gave (ask 1 0 (leb n 1024) ∷ []) 0 (recordOf (identity n)) (recordOf []) (omega arith, tt) g in
-    whole-of n (identity n) (identity-permutation n) (leb-true _ _ (passed 1 0 (leb n 1024) [] (G .passed) .here)) (G .is)
+    let G = gave (lengthAsks n) 0 (recordOf (identity n)) (recordOf []) (omega arith, tt) g in
+    whole-of n (identity n) (identity-permutation n) (few-means n (each-yes (lengthAsks n) (G .passed) .0)) (G .is)
 
 pub list-gives : (es : List ℕ) {p : Permutation} → Gives (fromListCall es) p → Whole p
 list-gives es g =
     let G = gave (fromListAsks es) 0 (recordOf es) (recordOf []) (omega arith, (omega arith, tt)) g in
-    let entries = askEach 6 (goodEntry (length es) es) (length es) in
-    let a = passed 1 0 (leb (length es) 1024) (entries ∷ []) (G .passed) in
-    let b = passed 6 (firstBadEntry es) (entries .yes) [] (a .rest) in
-    whole-of (length es) es (passes-permutation es (eqb-true _ _ (b .here))) (leb-true _ _ (a .here)) (G .is)
+    let y = each-yes (fromListAsks es) (G .passed) in
+    whole-of (length es) es (order-means es (y .1 .0)) (few-means (length es) (y .0)) (G .is)
 
 module _ (q : Permutation) (room : Handed q) {p : Permutation} where
   pub inverse-gives : Gives (inverseCall q) p → Whole p

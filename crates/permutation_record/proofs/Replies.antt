@@ -11,12 +11,14 @@ use lib.ListN.{length}
 use borrow.Author.Tests.{le-leb, lt-leb, le-ltb, lt-ltb, eq-eqb, ne-eqb}
 use Rattle.answers.specs.declared.Answer.{Answer}
 use Rattle.answers.specs.Answers.{refusal, accepted}
-use Rattle.answers.specs.Questions.{Question, ask, askEach, Verdict, allYes, noAt, firstNo, Numbered}
+use Rattle.answers.specs.Questions.{Question, ask, Verdict, allYes, noAt, firstNo, Numbered}
 use Rattle.answers.specs.Outcomes.{answerOf}
 use Rattle.answers.proofs.Outcomes.{accepted-when}
-use Rattle.answers.proofs.Questions.{asked-yes, asked-no, asked-both, asked-first, bad-within}
+use Rattle.answers.proofs.Questions.{asked-yes, asked-no, yes-each, asked-both, asked-first, bad-within}
 use Rattle.permutation.specs.Permutations.{goodEntry, firstBadEntry, tabulate, identity, exchanged, combined}
-use Rattle.permutation_record.specs.Records.{recordOf, listOf, lengthAsks, questionsOf, WellFormed, exchangeAsks, combineAsks}
+use Rattle.questions.proofs.Lists.{first-no}
+use Rattle.questions.proofs.Asked.{few-yes, few-no, order-yes, order-no}
+use Rattle.permutation_record.specs.Records.{recordOf, listOf, lengthAsks, questionsOf, WellFormed, exchangeAsks, combineAsks, fromListAsks}
 use Rattle.permutation_record.specs.Records.{reply, recordAfter, replied, identityCall, fromListCall, exchangeCall, combineCall, fixedPointsCall}
 use Rattle.permutation_record.specs.declared.Permutation.{Permutation}
 use Rattle.permutation_record.specs.declared.Reply.{Reply}
@@ -129,27 +131,25 @@ module _ (p q : Permutation) {a : Answer} (w : WellFormed p) (x : WellFormed q) 
 
 module _ (n : ℕ) {a : Answer} {p : Permutation} where
   pub identity-large : 1024 < n → a ≡ refusal 1 0 → p ≡ recordOf (identity 0) → reply a p ≡ identityCall n
-  identity-large l e g = replies-refused _ _ _ _ (asked-no 1 0 _ [] (lt-leb _ _ l)) e (g ∙ empty-record)
+  identity-large l e g = replies-refused _ _ _ _ (first-no 0 (lengthAsks n) (few-no n l)) e (g ∙ empty-record)
 
   pub identity-done : n ≤ 1024 → a ≡ accepted 0 → p ≡ recordOf (identity n) → reply a p ≡ identityCall n
-  identity-done l e g = replies-accepted _ _ _ _ (asked-yes 1 0 _ [] (le-leb _ _ l)) e g
+  identity-done l e g = replies-accepted _ _ _ _ (yes-each (lengthAsks n) (few-yes n l, tt)) e g
 
 module _ (es : List ℕ) {a : Answer} {p : Permutation} where
   pub list-large : 1024 < length es → a ≡ refusal 1 0 → p ≡ recordOf (identity 0) → reply a p ≡ fromListCall es
-  list-large l e g = replies-refused _ _ _ _ (asked-no 1 0 _ (askEach 6 (goodEntry (length es) es) (length es) ∷ []) (lt-leb _ _ l)) e (g ∙ empty-record)
+  list-large l e g = replies-refused _ _ _ _ (first-no 0 (fromListAsks es) (few-no (length es) l)) e (g ∙ empty-record)
 
   module _ (small : length es ≤ 1024) {low : ℕ} (f : low ≡ firstBadEntry es) where
     pub list-bad : low < length es → a ≡ refusal 6 low → p ≡ recordOf (identity 0) → reply a p ≡ fromListCall es
     list-bad l e g =
         replies-refused _ _ _ _
-        (asked-yes 1 0 _ (askEach 6 (goodEntry (length es) es) (length es) ∷ []) (le-leb _ _ small)
-        ∙ asked-no 6 (firstBadEntry es) _ [] (ne-eqb (firstBadEntry es) (length es) (λ z. omega arith)))
+        (first-no 1 (fromListAsks es) (few-yes (length es) small, order-no es (λ z. omega arith)))
         (rw f at e) (g ∙ empty-record)
 
     pub list-done : length es ≤ low → a ≡ accepted 0 → p ≡ recordOf es → reply a p ≡ fromListCall es
     list-done l e g =
         let z : firstBadEntry es ≡ length es = omega (arith, bad-within (goodEntry (length es) es) (length es)) in
         replies-accepted _ _ _ _
-        (asked-yes 1 0 _ (askEach 6 (goodEntry (length es) es) (length es) ∷ []) (le-leb _ _ small)
-        ∙ asked-yes 6 (firstBadEntry es) _ [] (eq-eqb (firstBadEntry es) (length es) z))
+        (yes-each (fromListAsks es) (few-yes (length es) small, (order-yes es z, tt)))
         e g

@@ -4,12 +4,13 @@ use mathlib.Core.Path.{_≡_}
 use mathlib.Core.Bool.{_&&_}
 use mathlib.Core.List.{List, [], _∷_, _++_}
 use Prim.Native.Nat.{ℕ, _≤_}
-use lib.Dec.{leb, ltb, eqb}
+use lib.Dec.{ltb, eqb}
 use lib.ListN.{length, getD, take}
 use Rattle.answers.specs.declared.Answer.{Answer}
-use Rattle.answers.specs.Questions.{Question, ask, askEach, Verdict, allYes, noAt, firstNo}
+use Rattle.answers.specs.Questions.{Question, ask, Verdict, allYes, noAt, firstNo}
 use Rattle.answers.specs.Outcomes.{answerOf}
-use Rattle.permutation.specs.Permutations.{IsPermutation, goodEntry, identity, exchanged, combined, inverted, fixedPoints}
+use Rattle.permutation.specs.Permutations.{IsPermutation, identity, exchanged, combined, inverted, fixedPoints}
+use Rattle.questions.specs.Asked.{placesFew, anOrder}
 use Rattle.permutation_questions.specs.Questions.{recordAsks}
 use Rattle.permutation_entries.specs.Entries.{padded}
 use Rattle.permutation_record.specs.declared.Permutation.{Permutation}
@@ -29,7 +30,7 @@ listOf p = take (p .length) (p .entries)
 
 -- 1 of a length
 abbrev pub lengthAsks : ℕ → List Question
-lengthAsks n = ask 1 0 (leb n 1024) ∷ []
+lengthAsks n = placesFew n ∷ []
 
 -- 1 and 6 of a record handed in, its number included
 abbrev pub questionsOf : Permutation → List Question
@@ -58,7 +59,7 @@ abbrev pub combineAsks : Permutation → Permutation → List Question
 combineAsks p q = questionsOf p ++ (questionsOf q ++ (ask 15 0 (eqb (p .length) (q .length)) ∷ []))
 
 abbrev pub fromListAsks : List ℕ → List Question
-fromListAsks es = ask 1 0 (leb (length es) 1024) ∷ askEach 6 (goodEntry (length es) es) (length es) ∷ []
+fromListAsks es = placesFew (length es) ∷ anOrder es ∷ []
 
 -- ---- what a call comes to
 

@@ -54,7 +54,7 @@ fn examine(p: Permutation) -> answers::Answer
 pub fn fixed_points_of(n: usize, fixed: usize) -> answers::Answer
     ensures { λ r. ⌜ r ≡ answerOf (firstNo (lengthAsks n)) fixed ⌝ }
 {
-    if 1024 < n {
+    if counts::MOST_PLACES < n {
         return answers::refuse(1, 0);
     }
     answers::accept(fixed)
@@ -113,7 +113,7 @@ impl Permutation {
     pub fn identity(n: usize) -> Reply
         ensures { λ r. ⌜ r ≡ identityCall n ⌝ }
     {
-        if 1024 < n {
+        if counts::MOST_PLACES < n {
             return give(answers::refuse(1, 0), identity_record(0));
         }
         give(answers::accept(0), identity_record(n))
@@ -122,7 +122,7 @@ impl Permutation {
     pub fn from_list(list: &[u16]) -> Reply
         ensures { λ r. ⌜ r ≡ fromListCall (now (list .entry)) ⌝ }
     {
-        if 1024 < list.len() {
+        if counts::MOST_PLACES < list.len() {
             return give(answers::refuse(1, 0), identity_record(0));
         }
         let low = permutation::first_bad_entry(list);

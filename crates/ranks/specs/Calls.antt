@@ -1,15 +1,16 @@
 -- 02, F-3: the r-th order of n places, and its setting. The questions, and what the whole call comes to.
 -- Assumes nothing: these are definitions.
 use mathlib.Core.List.{List, [], _∷_}
-use Prim.Native.Nat.{ℕ, _*_}
-use lib.Dec.{leb, ltb, eqb}
+use Prim.Native.Nat.{ℕ}
+use lib.Dec.{ltb}
 use lib.ListN.{length}
 use Rattle.answers.specs.declared.Answer.{Answer}
 use Rattle.answers.specs.Questions.{Question, ask, Verdict, firstNo}
 use Rattle.answers.specs.Outcomes.{answerOf, bufferOf}
-use Rattle.counts.specs.Counts.{W, E}
+use Rattle.counts.specs.Counts.{E}
 use Rattle.network.specs.Wiring.{paper}
-use Rattle.network.specs.Log.{entryWords, words}
+use Rattle.network.specs.Log.{words}
+use Rattle.questions.specs.Asked.{bitsFor, logFor, roomFor, listable}
 use Rattle.steps.specs.Sequence.{setEntries}
 use Rattle.steps.specs.Setting.{settingFor}
 use Rattle.ranks_order.specs.Ranks.{factorial, orderAt}
@@ -17,11 +18,11 @@ use Rattle.ranks_order.specs.Ranks.{factorial, orderAt}
 -- 17, 14, 13, 4, 5
 abbrev pub rankedQuestions : (n r : ℕ) (list bits log : List ℕ) → List Question
 rankedQuestions n r list bits log =
-    ask 17 0 (leb n 6)
+    listable n
     ∷ ask 14 0 (ltb r (factorial n))
-    ∷ ask 13 0 (leb n (length list))
-    ∷ ask 4 0 (eqb (length bits) (W n))
-    ∷ ask 5 0 (leb (entryWords * E n) (length log))
+    ∷ roomFor n (length list)
+    ∷ bitsFor n bits
+    ∷ logFor (E n) (length log)
     ∷ []
 
 -- the answer, and what is left in the order's list, the bits and the log

@@ -61,7 +61,7 @@ fn read_head(input: &[u8], room: usize) -> ReadNumber
     let ReadNumber::Number(n, _) = places else {
         return places;
     };
-    if 1024 < n {
+    if counts::MOST_PLACES < n {
         return ReadNumber::Refused(1, 0);
     }
     if room < counts::switches(n) {

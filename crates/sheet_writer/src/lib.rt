@@ -14,7 +14,7 @@ use answers::Answer;
 pub fn write_sheet(n: usize, bits: &[u8], out: &mut [u8]) -> Answer
     ensures { λ r. ⌜ outcome r (now (out .exit)) ≡ writeSheet n (now (bits .entry)) (now (out .entry)) ⌝ }
 {
-    if 1024 < n {
+    if counts::MOST_PLACES < n {
         return answers::refuse(1, 0);
     }
     if bits.len() != counts::switches(n) {

@@ -1,17 +1,15 @@
 -- The two calls, return by return.
 -- Assumes nothing.
 use mathlib.Core.Path.{_≡_, refl, sym, ap, _∙_}
-use mathlib.Core.List.{List, [], _∷_}
+use mathlib.Core.List.{List}
 use Prim.Native.Nat.{ℕ, _≤_, _<_}
-use lib.Dec.{leb, eqb}
 use lib.ListN.{length, take}
-use borrow.Author.Tests.{le-leb, lt-leb, eq-eqb, ne-eqb}
 use Rattle.answers.specs.declared.Answer.{Answer}
 use Rattle.answers.specs.Answers.{refusal, accepted}
-use Rattle.answers.specs.Questions.{Question, ask, askEach, firstBad, allYes, noAt, firstNo}
+use Rattle.answers.specs.Questions.{Question, firstBad, allYes, noAt, firstNo}
 use Rattle.answers.specs.Buffers.{overlay}
 use Rattle.answers.specs.Outcomes.{outcome}
-use Rattle.answers.proofs.Questions.{asked-yes, asked-no, asked-both, asked-first}
+use Rattle.answers.proofs.Questions.{yes-each, asked-both, asked-first}
 use Rattle.answers.proofs.Outcomes.{ends-refused, ends-accepted}
 use Rattle.bits.specs.Bits.{isBit}
 use Rattle.counts.specs.Counts.{W}
@@ -21,6 +19,8 @@ use Rattle.numbers.specs.declared.ReadNumber.the-variants.{Number, Refused}
 use Rattle.numbers.specs.Numbers.{sevens}
 use Rattle.numbers.proofs.Numbers.{Got, got-number, got-refused}
 use Rattle.rows.specs.Rows.{numbersAt, placePast, Row}
+use Rattle.questions.proofs.Lists.{first-no}
+use Rattle.questions.proofs.Asked.{few-yes, few-no, count-yes, count-no, bits-yes, bits-no, room-yes, room-no}
 use Rattle.sheets.specs.Sheet.{numbersFor, sheet}
 use Rattle.sheets.specs.Reading.{bitsIn}
 use Rattle.sheets.specs.Calls.{writeQuestions, writeSheet, placesIn, fourteensAt, headQuestions, bodyQuestions, bitsFrom, readQuestions, readSheet, settingIn}
@@ -28,53 +28,35 @@ use Rattle.sheets.proofs.Asking.{head-sized}
 
 -- ---- write sheet
 
-abbrev roomAsked : ℕ → List ℕ → ℕ → List Question
-roomAsked n bits room = ask 13 0 (leb (length (sheet n bits)) room) ∷ []
-
-abbrev bitsAsked : ℕ → List ℕ → ℕ → List Question
-bitsAsked n bits room = askEach 7 (isBit bits) (length bits) ∷ roomAsked n bits room
-
-abbrev countAsked : ℕ → List ℕ → ℕ → List Question
-countAsked n bits room = ask 4 0 (eqb (length bits) (W n)) ∷ bitsAsked n bits room
-
 module _ (n : ℕ) (bits : List ℕ) (room : ℕ) where
-  whole : writeQuestions n bits room ≡ ask 1 0 (leb n 1024) ∷ countAsked n bits room
-  unfolding writeQuestions
-  whole = refl
-
   pub too-large : 1024 < n → firstNo (writeQuestions n bits room) ≡ noAt 1 0
-  too-large h = ap firstNo whole ∙ asked-no 1 0 (leb n 1024) (countAsked n bits room) (lt-leb n 1024 h)
+  unfolding writeQuestions
+  too-large h = first-no 0 (writeQuestions n bits room) (few-no n h)
 
   module _ (h : n ≤ 1024) where
-    to-count : firstNo (writeQuestions n bits room) ≡ firstNo (countAsked n bits room)
-    to-count = ap firstNo whole ∙ asked-yes 1 0 (leb n 1024) (countAsked n bits room) (le-leb n 1024 h)
-
     pub uneven : (length bits ≡ W n → ⊥) → firstNo (writeQuestions n bits room) ≡ noAt 4 0
-    uneven g = to-count ∙ asked-no 4 0 (eqb (length bits) (W n)) (bitsAsked n bits room) (ne-eqb (length bits) (W n) g)
+    unfolding writeQuestions
+    uneven g = first-no 1 (writeQuestions n bits room) (few-yes n h, count-no n bits g)
 
     module _ (g : length bits ≡ W n) where
-      bad : ℕ
-      bad = firstBad (isBit bits) (length bits)
-
-      to-bits : firstNo (writeQuestions n bits room) ≡ firstNo (bitsAsked n bits room)
-      to-bits = to-count ∙ asked-yes 4 0 (eqb (length bits) (W n)) (bitsAsked n bits room) (eq-eqb (length bits) (W n) g)
-
       pub no-bit : {p : ℕ} → p ≡ firstBad (isBit bits) (length bits) → (p ≡ length bits → ⊥) → firstNo (writeQuestions n bits room) ≡ noAt 7 p
-      unfolding bad
-      no-bit {p} e l =
-          to-bits ∙ asked-no 7 bad (eqb bad (length bits)) (roomAsked n bits room) (ne-eqb bad (length bits) (λ z. l (e ∙ z))) ∙ ap (noAt 7) (sym e)
+      unfolding writeQuestions
+      no-bit e l =
+          first-no 2 (writeQuestions n bits room) (few-yes n h, (count-yes n bits g, bits-no bits (λ z. l (e ∙ z)))) ∙ ap (noAt 7) (sym e)
 
       module _ (b : firstBad (isBit bits) (length bits) ≡ length bits) where
-        to-room : firstNo (writeQuestions n bits room) ≡ firstNo (roomAsked n bits room)
-        unfolding bad
-        to-room = to-bits ∙ asked-yes 7 bad (eqb bad (length bits)) (roomAsked n bits room) (eq-eqb bad (length bits) b)
-
         pub too-short : room < length (sheet n bits) → firstNo (writeQuestions n bits room) ≡ noAt 13 0
-        too-short l = to-room ∙ asked-no 13 0 (leb (length (sheet n bits)) room) [] (lt-leb (length (sheet n bits)) room l)
+        unfolding writeQuestions
+        too-short l =
+            let no = room-no (length (sheet n bits)) room l in
+            first-no 3 (writeQuestions n bits room) (few-yes n h, (count-yes n bits g, (bits-yes bits b, no)))
 
         -- every question gets a yes
         pub write-passes : length (sheet n bits) ≤ room → firstNo (writeQuestions n bits room) ≡ allYes
-        write-passes l = to-room ∙ asked-yes 13 0 (leb (length (sheet n bits)) room) [] (le-leb (length (sheet n bits)) room l)
+        unfolding writeQuestions
+        write-passes l =
+            let fits = room-yes (length (sheet n bits)) room l in
+            yes-each (writeQuestions n bits room) (few-yes n h, (count-yes n bits g, (bits-yes bits b, (fits, tt))))
 
 module _ (n : ℕ) (bits out : List ℕ) {a : Answer} where
   pub write-refused : {q p : ℕ} → firstNo (writeQuestions n bits (length out)) ≡ noAt q p → a ≡ refusal q p → outcome a out ≡ writeSheet n bits out

@@ -23,6 +23,7 @@ use Rattle.numbers.proofs.Reach.{place-near, place-small, asked-alike, read-ali
 use Rattle.rows.specs.Rows.{numbersQuestions, numbersAt, placePast}
 use Rattle.rows.proofs.Rows.{place-more, numbers-more, numbers-length, numbers-fit}
 use Rattle.rows.proofs.Reach.{both-alike, one-alike, SameNo, same-no, row-near, row-asked, row-numbers, row-place}
+use Rattle.questions.specs.Asked.{placesFew, endsAt}
 use Rattle.sheets.specs.Sheet.{numbersFor, sheetRoom}
 use Rattle.sheets.specs.Reading.{bitsIn, allZero}
 use Rattle.sheets.specs.Calls.{formIn, placesAt, placesIn, fourteensAt, headQuestions, bodyQuestions, bitsFrom, readQuestions}
@@ -66,7 +67,7 @@ module _ (input : List ℕ) (w at : ℕ) (few : w ≤ 9217) (near : at ≤ 3) wh
 -- ---- the questions in their parts
 
 abbrev sizeAsked : ℕ → List ℕ → List Question
-sizeAsked room bytes = ask 1 0 (leb (placesIn bytes) 1024) ∷ ask 4 0 (leb (W (placesIn bytes)) room) ∷ []
+sizeAsked room bytes = placesFew (placesIn bytes) ∷ ask 4 0 (leb (W (placesIn bytes)) room) ∷ []
 
 abbrev placesAsked : ℕ → List ℕ → List Question
 placesAsked room bytes = numberQuestions bytes (placesAt bytes) ++ sizeAsked room bytes
@@ -75,8 +76,7 @@ abbrev formAsked : ℕ → List ℕ → List Question
 formAsked room bytes = ask 10 0 (eqb (formIn bytes) 1) ∷ placesAsked room bytes
 
 abbrev endAsked : ℕ → ℕ → List ℕ → List Question
-endAsked w at bytes =
-    ask 12 (placePast sevens (numbersFor w) bytes at) (leb (length bytes) (placePast sevens (numbersFor w) bytes at)) ∷ []
+endAsked w at bytes = endsAt (placePast sevens (numbersFor w) bytes at) bytes ∷ []
 
 abbrev fillAsked : ℕ → ℕ → List ℕ → List Question
 fillAsked w at bytes = ask 11 (placePast sevens (numbersFor w - 1) bytes at) (allZero (drop w (bitsFrom bytes w at))) ∷ endAsked w at bytes

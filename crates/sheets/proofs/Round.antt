@@ -2,22 +2,20 @@
 -- Assumes nothing.
 use mathlib.Core.Path.{_≡_, refl, sym, ap, _∙_}
 use mathlib.Core.Bool.{true}
-use mathlib.Core.List.{List, [], _∷_, _++_, append-assoc, append-nil}
+use mathlib.Core.List.{List, [], _++_, append-assoc, append-nil}
 use Prim.Native.Nat.{ℕ, _+_, _-_, _≤_}
 use native.Mathlib.Omega.{arith}
-use lib.Dec.{leb, eqb}
 use lib.ListN.{length, take, drop, length-append}
 use lib.Seq.{take-all}
-use borrow.Author.Tests.{leb-true, eqb-true}
 use Rattle.answers.specs.Answers.{accepted}
-use Rattle.answers.specs.Questions.{ask, askEach, firstBad, allYes, firstNo}
+use Rattle.answers.specs.Questions.{allYes, firstNo}
 use Rattle.answers.specs.Buffers.{overlay}
 use Rattle.answers.specs.Outcomes.{Outcome, outcome}
-use Rattle.answers.proofs.Questions.{passed}
+use Rattle.answers.proofs.Questions.{each-yes}
 use Rattle.answers.proofs.Buffers.{overlay-read}
 use Rattle.answers.proofs.Outcomes.{accepted-when, numbered-both}
-use Rattle.bits.specs.Bits.{isBit, Bits}
-use Rattle.bits.proofs.Bytes.{bits-all, all-bits}
+use Rattle.bits.specs.Bits.{Bits}
+use Rattle.bits.proofs.Bytes.{all-bits}
 use Rattle.counts.specs.Counts.{W}
 use Rattle.numbers.specs.Numbers.{numberBytes, numberQuestions, sevens, Reads}
 use Rattle.numbers.specs.declared.ReadNumber.the-variants.{Number}
@@ -25,6 +23,7 @@ use Rattle.numbers.proofs.Numbers.{numbered, number-back}
 use Rattle.rows.specs.Rows.{numbersBytes, numbersQuestions, numbersAt, placePast}
 use Rattle.rows.proofs.Rows.{Back, row-back, numbered-row}
 use Rattle.rows.proofs.Reading.{RowOf}
+use Rattle.questions.proofs.Asked.{few-means, count-means, bits-means, room-means}
 use Rattle.sheets.specs.Sheet.{numbersFor, fourteens, sheet}
 use Rattle.sheets.specs.Reading.{bitsIn, allZero}
 use Rattle.sheets.specs.Calls.{writeQuestions, writeSheet, Writable, written}
@@ -114,20 +113,13 @@ write-accepts n bits out ok =
 pub write-only : (n : ℕ) (bits out : List ℕ) → writeSheet n bits out .answer .number ≡ 0 → Writable n bits out
 unfolding writeSheet writeQuestions
 write-only n bits out e =
-    let room = ask 13 0 (leb (length (sheet n bits)) (length out)) ∷ [] in
-    let bad = firstBad (isBit bits) (length bits) in
-    let seven = askEach 7 (isBit bits) (length bits) ∷ room in
-    let four = ask 4 0 (eqb (length bits) (W n)) ∷ seven in
     let all = accepted-when (writeQuestions n bits (length out)) (length (sheet n bits)) (omega arith, (omega arith, (omega arith, (omega arith, tt)))) e in
-    let a = passed 1 0 (leb n 1024) four all in
-    let b = passed 4 0 (eqb (length bits) (W n)) seven (a .rest) in
-    let c = passed 7 bad (eqb bad (length bits)) room (b .rest) in
-    let d = passed 13 0 (leb (length (sheet n bits)) (length out)) [] (c .rest) in
+    let y = each-yes (writeQuestions n bits (length out)) all in
     record {
-      few = leb-true n 1024 (a .here);
-      count = eqb-true (length bits) (W n) (b .here);
-      areBits = bits-all bits (eqb-true bad (length bits) (c .here));
-      room = leb-true (length (sheet n bits)) (length out) (d .here);
+      few = few-means n (y .0);
+      count = count-means n bits (y .1 .0);
+      areBits = bits-means bits (y .1 .1 .0);
+      room = room-means (length (sheet n bits)) (length out) (y .1 .1 .1 .0);
     }
 
 -- ---- when read sheet is accepted

@@ -5,25 +5,26 @@ use mathlib.Core.List.{List, [], _∷_, _++_}
 use Prim.Native.Nat.{ℕ, _-_, _≤_}
 use lib.Dec.{leb, eqb}
 use lib.ListN.{length, take, drop}
-use Rattle.answers.specs.Questions.{Question, ask, askEach, firstNo}
+use Rattle.answers.specs.Questions.{Question, ask, firstNo}
 use Rattle.answers.specs.Outcomes.{bufferOf, Outcome, settled}
-use Rattle.bits.specs.Bits.{isBit, Bits}
+use Rattle.bits.specs.Bits.{Bits}
 use Rattle.counts.specs.Counts.{W}
 use Rattle.numbers.specs.Numbers.{numberQuestions, numberAt, sevens}
 use Rattle.numbers.specs.Reading.{readOf}
 use Rattle.numbers.specs.declared.ReadNumber.{ReadNumber}
 use Rattle.rows.specs.Rows.{numbersQuestions, numbersAt, placePast}
+use Rattle.questions.specs.Asked.{placesFew, bitsFor, allBits, endsAt, roomFor}
 use Rattle.sheets.specs.Sheet.{numbersFor, sheet}
 use Rattle.sheets.specs.Reading.{bitsIn, allZero}
 
 -- ---- write sheet: 1, 4, 7, 13
 
-unfoldable pub writeQuestions : ℕ → List ℕ → ℕ → List Question
+unfoldable pub writeQuestions : (n : ℕ) (bits : List ℕ) (room : ℕ) → List Question
 writeQuestions n bits room =
-    ask 1 0 (leb n 1024)
-    ∷ ask 4 0 (eqb (length bits) (W n))
-    ∷ askEach 7 (isBit bits) (length bits)
-    ∷ ask 13 0 (leb (length (sheet n bits)) room)
+    placesFew n
+    ∷ bitsFor n bits
+    ∷ allBits bits
+    ∷ roomFor (length (sheet n bits)) room
     ∷ []
 
 -- the sheet over the front of the output, and as count its bytes
@@ -62,7 +63,7 @@ headQuestions input room =
     numberQuestions input 0
     ++ (ask 10 0 (eqb (formIn input) 1)
     ∷ (numberQuestions input (placesAt input)
-    ++ (ask 1 0 (leb (placesIn input) 1024)
+    ++ (placesFew (placesIn input)
     ∷ ask 4 0 (leb (W (placesIn input)) room)
     ∷ [])))
 
@@ -75,7 +76,7 @@ unfoldable pub bodyQuestions : List ℕ → ℕ → ℕ → List Question
 bodyQuestions input w at =
     numbersQuestions sevens (numbersFor w) input at
     ++ (ask 11 (placePast sevens (numbersFor w - 1) input at) (allZero (drop w (bitsFrom input w at)))
-    ∷ ask 12 (placePast sevens (numbersFor w) input at) (leb (length input) (placePast sevens (numbersFor w) input at))
+    ∷ endsAt (placePast sevens (numbersFor w) input at) input
     ∷ [])
 
 unfoldable pub readQuestions : List ℕ → ℕ → List Question

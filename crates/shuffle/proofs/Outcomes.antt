@@ -5,19 +5,20 @@ use mathlib.Core.Bool.{true}
 use mathlib.Core.List.{List, [], _∷_, _++_}
 use Prim.Native.Nat.{ℕ, _≤_, _<_}
 use native.Mathlib.Omega.{arith}
-use lib.Dec.{leb}
 use lib.ListN.{length, take, drop}
 use lib.Seq.{length-take-le}
-use borrow.Author.Tests.{le-leb, lt-leb}
 use Rattle.answers.specs.declared.Answer.{Answer}
 use Rattle.answers.specs.Answers.{refusal, accepted}
-use Rattle.answers.specs.Questions.{Question, ask, allYes, noAt, firstNo}
+use Rattle.answers.specs.Questions.{allYes, noAt, firstNo}
 use Rattle.answers.specs.Buffers.{overlay}
 use Rattle.answers.specs.Outcomes.{besideOf}
-use Rattle.answers.proofs.Questions.{asked-yes, asked-no}
+use Rattle.answers.proofs.Questions.{yes-each, asked-both}
 use Rattle.answers.proofs.Buffers.{overlay-front}
 use Rattle.permutation.specs.Permutations.{identity}
 use Rattle.permutation.proofs.Laws.{identity-length}
+use Rattle.questions.specs.Asked.{placesFew, roomFor}
+use Rattle.questions.proofs.Lists.{first-no}
+use Rattle.questions.proofs.Asked.{few-yes, few-no, room-yes, room-no}
 use Rattle.shuffle.specs.declared.Drawn.{Drawn}
 use Rattle.shuffle_words.specs.declared.Choice.{Choice}
 use Rattle.shuffle_words.specs.declared.Choice.the-variants.{Enough, RunOut}
@@ -27,19 +28,13 @@ use Rattle.shuffle.specs.Shuffled.{stepped, shuffled, shuffleAsks, drawn
 use Rattle.shuffle.proofs.Steps.{stepped-front, stepped-length}
 
 module _ (n : ℕ) (words before : List ℕ) where
-  room : List Question
-  room = ask 13 0 (leb n (length before)) ∷ supplyAsks n words
-
-  asks-room : n ≤ 1024 → firstNo (shuffleAsks n words before) ≡ firstNo room
-  unfolding room
-  asks-room l = asked-yes 1 0 (leb n 1024) room (le-leb n 1024 l)
-
   asks-supply : n ≤ 1024 → n ≤ length before → firstNo (shuffleAsks n words before) ≡ firstNo (supplyAsks n words)
-  unfolding room
-  asks-supply l h = asks-room l ∙ asked-yes 13 0 (leb n (length before)) (supplyAsks n words) (le-leb n (length before) h)
+  asks-supply l h =
+      let first = placesFew n ∷ roomFor n (length before) ∷ [] in
+      asked-both first (supplyAsks n words) (yes-each first (few-yes n l, (room-yes n (length before) h, tt)))
 
   pub asks-pass : n ≤ 1024 → n ≤ length before → chosen n words .enough ≡ true → firstNo (shuffleAsks n words before) ≡ allYes
-  asks-pass l h e = asks-supply l h ∙ asked-yes 18 0 (chosen n words .enough) [] e
+  asks-pass l h e = yes-each (shuffleAsks n words before) (few-yes n l, (room-yes n (length before) h, (e, tt)))
 
   refused : {r : Drawn} {q : ℕ} → firstNo (shuffleAsks n words before) ≡ noAt q 0 → r ≡ record { answer = refusal q 0; used = 0 }
       → drawn r before ≡ shuffleCall n words before
@@ -47,13 +42,11 @@ module _ (n : ℕ) (words before : List ℕ) where
   refused v e = rw (v, e)
 
   pub shuffle-large : {r : Drawn} → 1024 < n → r ≡ record { answer = refusal 1 0; used = 0 } → drawn r before ≡ shuffleCall n words before
-  unfolding room
-  shuffle-large l e = refused (asked-no 1 0 (leb n 1024) room (lt-leb n 1024 l)) e
+  shuffle-large l e = refused (first-no 0 (shuffleAsks n words before) (few-no n l)) e
 
   pub shuffle-short : {r : Drawn} → n ≤ 1024 → length before < n → r ≡ record { answer = refusal 13 0; used = 0 }
       → drawn r before ≡ shuffleCall n words before
-  unfolding room
-  shuffle-short s l e = refused (asks-room s ∙ asked-no 13 0 (leb n (length before)) (supplyAsks n words) (lt-leb n (length before) l)) e
+  shuffle-short s l e = refused (first-no 1 (shuffleAsks n words before) (few-yes n s, room-no n (length before) l)) e
 
   pub shuffle-out : {r : Drawn} {kept : List ℕ} {choice : Choice} → n ≤ 1024 → n ≤ length before → Chose n words kept choice
       → choice ≡ RunOut → r ≡ record { answer = refusal 18 0; used = 0 } → drawn r before ≡ shuffleCall n words before

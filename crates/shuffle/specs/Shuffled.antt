@@ -4,14 +4,15 @@ use mathlib.Core.Path.{_≡_}
 use mathlib.Core.Bool.{true, _&&_}
 use mathlib.Core.List.{List, [], _∷_}
 use Prim.Native.Nat.{ℕ, zero, suc, _+_, _-_, _%_, _^_, _≤_}
-use lib.Dec.{leb, eqb}
+use lib.Dec.{eqb}
 use lib.ListN.{length, getD}
 use Rattle.answers.specs.declared.Answer.{Answer}
-use Rattle.answers.specs.Questions.{Question, ask, Verdict, firstNo}
+use Rattle.answers.specs.Questions.{Question, Verdict, firstNo}
 use Rattle.answers.specs.Outcomes.{answerOf, bufferOf, besideOf}
 use Rattle.permutation.specs.Permutations.{howMany, identity, exchanged}
+use Rattle.questions.specs.Asked.{placesFew, roomFor}
 use Rattle.shuffle.specs.declared.Drawn.{Drawn}
-use Rattle.shuffle_words.specs.Words.{fit, chosen}
+use Rattle.shuffle_words.specs.Words.{fit, chosen, wordsLast}
 
 -- the place with which place i of n is exchanged under a word
 abbrev pub partner : ℕ → ℕ → ℕ → ℕ
@@ -31,8 +32,8 @@ abbrev pub orderFrom : ℕ → List ℕ → List ℕ
 orderFrom n words = shuffled (chosen n words .taken)
 
 -- 1, 13; 18 when the words run out before the last place is drawn (16 is withdrawn)
-abbrev pub shuffleAsks : ℕ → List ℕ → List ℕ → List Question
-shuffleAsks n words out = ask 1 0 (leb n 1024) ∷ ask 13 0 (leb n (length out)) ∷ ask 18 0 (chosen n words .enough) ∷ []
+abbrev pub shuffleAsks : (n : ℕ) (words out : List ℕ) → List Question
+shuffleAsks n words out = placesFew n ∷ roomFor n (length out) ∷ wordsLast n words ∷ []
 
 -- what they ask, in words
 pub record Acceptable (n : ℕ) (words out : List ℕ) : Type 0 where

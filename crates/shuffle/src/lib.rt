@@ -66,7 +66,7 @@ fn refused(number: usize) -> Drawn
 pub fn shuffle(n: usize, words: &[u32], out: &mut [u16]) -> Drawn
     ensures { λ r. ⌜ drawn r (now (out .exit)) ≡ shuffleCall n (now (words .entry)) (now (out .entry)) ⌝ }
 {
-    if 1024 < n {
+    if counts::MOST_PLACES < n {
         return refused(1);
     }
     if out.len() < n {

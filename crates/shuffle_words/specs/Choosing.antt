@@ -4,15 +4,15 @@ use mathlib.Core.Path.{_≡_}
 use mathlib.Core.List.{List, [], _∷_}
 use Prim.Native.Nat.{ℕ}
 use lib.ListN.{take}
-use Rattle.answers.specs.Questions.{Question, ask, Verdict, allYes, noAt, firstNo}
+use Rattle.answers.specs.Questions.{Question, Verdict, allYes, noAt, firstNo}
 use Rattle.answers.specs.Outcomes.{besideOf}
 use Rattle.shuffle_words.specs.declared.Choice.{Choice}
 use Rattle.shuffle_words.specs.declared.Choice.the-variants.{Enough, RunOut}
-use Rattle.shuffle_words.specs.Words.{chosen}
+use Rattle.shuffle_words.specs.Words.{chosen, wordsLast}
 
--- 18: are there words enough to draw the last place?
+-- 18
 abbrev pub supplyAsks : ℕ → List ℕ → List Question
-supplyAsks n words = ask 18 0 (chosen n words .enough) ∷ []
+supplyAsks n words = wordsLast n words ∷ []
 
 -- the cases: a yes and the number of words used, or 18
 abbrev pub verdictOf : Choice → Verdict

@@ -4,6 +4,7 @@ use mathlib.Core.Bool.{Bool, true, false}
 use mathlib.Core.List.{List, [], _∷_}
 use Prim.Native.Nat.{ℕ, zero, suc, _*_, _/_, _^_}
 use lib.Dec.{ltb}
+use Rattle.answers.specs.Questions.{Question, ask}
 
 -- the largest multiple of d that doesn't exceed 2^32
 abbrev pub limit : ℕ → ℕ
@@ -34,3 +35,7 @@ unfoldable pub chosen : ℕ → List ℕ → Chosen
 chosen zero words = enoughWith [] 0
 chosen (suc d) [] = record { taken = []; used = 0; enough = false }
 chosen (suc d) (word ∷ words) = elim (fit (suc d) word) [ true ↦ takes word (chosen d words) | false ↦ skips (chosen (suc d) words) ]
+
+-- 'Refused: .. 18, when the words run out before the last place is drawn'
+abbrev pub wordsLast : (n : ℕ) (words : List ℕ) → Question
+wordsLast n words = ask 18 0 (chosen n words .enough)

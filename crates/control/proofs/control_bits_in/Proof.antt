@@ -5,12 +5,16 @@ use borrow.Author.Needs.{needs}
 use mathlib.Core.Path.{_≡_, refl, sym, ap, _∙_}
 use Prim.Native.Nat.{_≤_}
 use lib.ListN.{length}
-use Rattle.counts.specs.Counts.{W}
+use Rattle.counts.specs.Counts.{W, E}
 use Rattle.permutation.proofs.Permutations.{passes-permutation}
 use Rattle.wirings.specs.Nets.{wiringOf}
-use Rattle.control.proofs.Asked.{no-1, no-4, no-5, no-6, all-yes, refused, taken}
 use Rattle.answers.specs.Answers.{refusal}
+use Rattle.answers.proofs.Questions.{yes-each}
 use Rattle.permutation.specs.Permutations.{firstBadEntry}
+use Rattle.questions.proofs.Lists.{first-no}
+use Rattle.questions.proofs.Asked.{few-yes, few-no, count-yes, count-no, log-yes, log-no, order-yes, order-no}
+use Rattle.control.specs.Calls.{setQuestions}
+use Rattle.control.proofs.Asked.{refused, taken}
 use Rattle.control.proofs.control_bits_in.Statement.{statement}
 use Rattle.control.proofs.control_bits_in.Tie as tie
 
@@ -20,8 +24,9 @@ refuse-requires c κs = search needs
 returns : tie.Need-returns
 returns c =
     let a = c .before .before .before .before .before .args in
+    let qs = setQuestions (a .order .now) (a .bits .now) (a .log .now) in
     refused (a .order .now) (a .bits .now) (a .log .now) (wiringOf (a .t)) 1 0
-    (no-1 (a .order .now) (a .bits .now) (a .log .now) (c .before .if1 .taken)) (c .refuse .ensures) refl refl
+    (first-no 0 qs (few-no (length (a .order .now)) (c .before .if1 .taken))) (c .refuse .ensures) refl refl
 
 switches-requires : tie.Need-switches-requires
 switches-requires c κs = search needs
@@ -34,8 +39,10 @@ returns-2 c =
     let w = c .before .before in
     let a = w .before .before .before .before .before .args in
     let e : length (a .bits .now) ≡ W (length (a .order .now)) → ⊥ = λ q. c .before .if2 .taken (q ∙ sym (w .switches .ensures .0)) in
+    let n = length (a .order .now) in
+    let qs = setQuestions (a .order .now) (a .bits .now) (a .log .now) in
     refused (a .order .now) (a .bits .now) (a .log .now) (wiringOf (a .t)) 4 0
-    (no-4 (a .order .now) (a .bits .now) (a .log .now) (w .before .if1 .left) e) (c .refuse2 .ensures) refl refl
+    (first-no 1 qs (few-yes n (w .before .if1 .left), count-no n (a .bits .now) e)) (c .refuse2 .ensures) refl refl
 
 entries-requires : tie.Need-entries-requires
 entries-requires c κs = search needs
@@ -51,10 +58,13 @@ returns-3 c =
     let b4 = c .before .before .before .before in
     let b5 = b4 .before in
     let b9 = b5 .before .before .before .before in
-    refused (b9 .args .order .now) (b9 .args .bits .now) (b9 .args .log .now) (wiringOf (b9 .args .t)) 5 0
-    (no-5 (b9 .args .order .now) (b9 .args .bits .now) (b9 .args .log .now) (b5 .if1 .left)
-    (c .before .before .before .if2 .left ∙ b4 .switches .ensures .0)
-    (omega (arith, c .before .if3 .taken, c .before .before .entries .ensures .0))) (c .refuse3 .ensures) refl refl
+    let a = b9 .args in
+    let n = length (a .order .now) in
+    let few = few-yes n (b5 .if1 .left) in
+    let count = count-yes n (a .bits .now) (c .before .before .before .if2 .left ∙ b4 .switches .ensures .0) in
+    let short = log-no (E n) (length (a .log .now)) (omega (arith, c .before .if3 .taken, c .before .before .entries .ensures .0)) in
+    refused (a .order .now) (a .bits .now) (a .log .now) (wiringOf (a .t)) 5 0
+    (first-no 2 (setQuestions (a .order .now) (a .bits .now) (a .log .now)) (few, (count, short))) (c .refuse3 .ensures) refl refl
 
 first-bad-entry-requires : tie.Need-first-bad-entry-requires
 first-bad-entry-requires c κs = search needs
@@ -70,10 +80,14 @@ returns-4 c =
     let b7 = b6 .before in
     let b11 = b7 .before .before .before .before in
     let f = c .before .before .first-bad-entry .ensures in
-    refused (b11 .args .order .now) (b11 .args .bits .now) (b11 .args .log .now) (wiringOf (b11 .args .t)) 6
-    (firstBadEntry (b11 .args .order .now))
-    (no-6 (b11 .args .order .now) (b11 .args .bits .now) (b11 .args .log .now) (b7 .if1 .left) (b5 .if2 .left ∙ b6 .switches .ensures .0)
-    (omega (arith, c .before .before .before .if3 .left, b4 .entries .ensures .0)) (λ e. c .before .if4 .taken (f ∙ e)))
+    let a = b11 .args in
+    let n = length (a .order .now) in
+    let few = few-yes n (b7 .if1 .left) in
+    let count = count-yes n (a .bits .now) (b5 .if2 .left ∙ b6 .switches .ensures .0) in
+    let room = log-yes (E n) (length (a .log .now)) (omega (arith, c .before .before .before .if3 .left, b4 .entries .ensures .0)) in
+    let bad = order-no (a .order .now) (λ e. c .before .if4 .taken (f ∙ e)) in
+    refused (a .order .now) (a .bits .now) (a .log .now) (wiringOf (a .t)) 6 (firstBadEntry (a .order .now))
+    (first-no 3 (setQuestions (a .order .now) (a .bits .now) (a .log .now)) (few, (count, (room, bad))))
     (c .refuse4 .ensures ∙ ap (refusal 6) f) refl refl
 
 set-order-in-requires : tie.Need-set-order-in-requires
@@ -115,11 +129,15 @@ returns-5 c =
     let b14 = b13 .before in
     let b18 = b14 .before .before .before .before in
     let s = b5 .set-order-in in
-    taken (b18 .args .order .now) (b18 .args .bits .now) (b18 .args .log .now) (wiringOf (b18 .args .t)) (s .result)
-    (all-yes (b18 .args .order .now) (b18 .args .bits .now) (b18 .args .log .now) (b14 .if1 .left)
-    (b12 .if2 .left ∙ b13 .switches .ensures .0) (omega (arith, b10 .if3 .left, b11 .entries .ensures .0))
-    (sym (b9 .first-bad-entry .ensures) ∙ b8 .if4 .left)) (s .ensures) (s .kept .1 .1 .0)
-    (c .accept .ensures)
+    let a = b18 .args in
+    let n = length (a .order .now) in
+    let few = few-yes n (b14 .if1 .left) in
+    let count = count-yes n (a .bits .now) (b12 .if2 .left ∙ b13 .switches .ensures .0) in
+    let room = log-yes (E n) (length (a .log .now)) (omega (arith, b10 .if3 .left, b11 .entries .ensures .0)) in
+    let good = order-yes (a .order .now) (sym (b9 .first-bad-entry .ensures) ∙ b8 .if4 .left) in
+    taken (a .order .now) (a .bits .now) (a .log .now) (wiringOf (a .t)) (s .result)
+    (yes-each (setQuestions (a .order .now) (a .bits .now) (a .log .now)) (few, (count, (room, (good, tt)))))
+    (s .ensures) (s .kept .1 .1 .0) (c .accept .ensures)
 
 pub control-bits-in-spec : {M : Type 1} → statement M
 control-bits-in-spec =

@@ -8,9 +8,12 @@ use lib.Seq.{length-take-le}
 use borrow.Author.Needs.{needs}
 use Rattle.answers.specs.Answers.{refusal}
 use Rattle.bits.proofs.Bytes.{bits-all}
+use Rattle.questions.proofs.Lists.{first-no}
+use Rattle.questions.proofs.Asked.{few-yes, few-no, count-yes, count-no, bits-no}
 use Rattle.wirings.proofs.Halves.{lawful}
 use Rattle.setting_order.proofs.Front.{order-room}
-use Rattle.convert.proofs.Asked.{no1, no4-given, no4-out, no7, yes-all, refused, taken, settable, set-across}
+use Rattle.convert.specs.Calls.{convertQuestions}
+use Rattle.convert.proofs.Asked.{yes-all, refused, taken, settable, set-across}
 use Rattle.convert.proofs.convert.Statement.{statement}
 use Rattle.convert.proofs.convert.Tie as tie
 
@@ -18,10 +21,11 @@ refuse-requires : tie.Need-refuse-requires
 refuse-requires c κs = search needs
 
 returns : tie.Need-returns
+unfolding convertQuestions
 returns c =
     let a = c .before .before .before .before .args in
-    refused (a .n) (a .given .now) (a .out .now) (a .from) (no1 (a .n) (a .given .now) (a .out .now) (c .before .if1 .taken))
-    (c .refuse .ensures)
+    let no = few-no (a .n) (c .before .if1 .taken) in
+    refused (a .n) (a .given .now) (a .out .now) (a .from) (first-no 0 (convertQuestions (a .n) (a .given .now) (a .out .now)) no) (c .refuse .ensures)
 
 switches-requires : tie.Need-switches-requires
 switches-requires c κs = search needs
@@ -30,23 +34,26 @@ refuse-requires-2 : tie.Need-refuse-requires-2
 refuse-requires-2 c κs = search needs
 
 returns-2 : tie.Need-returns-2
+unfolding convertQuestions
 returns-2 c =
     let w = c .before .before in
     let a = w .before .before .before .before .args in
-    refused (a .n) (a .given .now) (a .out .now) (a .from)
-    (no4-given (a .n) (a .given .now) (a .out .now) (w .before .if1 .left) (λ e. c .before .if2 .taken (e ∙ sym (w .switches .ensures .0))))
-    (c .refuse2 .ensures)
+    let few = few-yes (a .n) (w .before .if1 .left) in
+    let no = count-no (a .n) (a .given .now) (λ e. c .before .if2 .taken (e ∙ sym (w .switches .ensures .0))) in
+    refused (a .n) (a .given .now) (a .out .now) (a .from) (first-no 1 (convertQuestions (a .n) (a .given .now) (a .out .now)) (few, no)) (c .refuse2 .ensures)
 
 refuse-requires-3 : tie.Need-refuse-requires-3
 refuse-requires-3 c κs = search needs
 
 returns-3 : tie.Need-returns-3
+unfolding convertQuestions
 returns-3 c =
     let w = c .before .before .before in
     let a = w .before .before .before .before .args in
-    refused (a .n) (a .given .now) (a .out .now) (a .from)
-    (no4-out (a .n) (a .given .now) (a .out .now) (w .before .if1 .left) (c .before .before .if2 .left ∙ w .switches .ensures .0)
-    (λ e. c .before .if3 .taken (e ∙ sym (w .switches .ensures .0)))) (c .refuse3 .ensures)
+    let few = few-yes (a .n) (w .before .if1 .left) in
+    let count = count-yes (a .n) (a .given .now) (c .before .before .if2 .left ∙ w .switches .ensures .0) in
+    let no = count-no (a .n) (a .out .now) (λ e. c .before .if3 .taken (e ∙ sym (w .switches .ensures .0))) in
+    refused (a .n) (a .given .now) (a .out .now) (a .from) (first-no 2 (convertQuestions (a .n) (a .given .now) (a .out .now)) (few, (count, no))) (c .refuse3 .ensures)
 
 first-bad-bit-requires : tie.Need-first-bad-bit-requires
 first-bad-bit-requires c κs = search needs
@@ -55,14 +62,16 @@ refuse-requires-4 : tie.Need-refuse-requires-4
 refuse-requires-4 c κs = search needs
 
 returns-4 : tie.Need-returns-4
+unfolding convertQuestions
 returns-4 c =
     let b = c .before .before in
     let w = b .before .before .before in
     let a = w .before .before .before .before .args in
-    refused (a .n) (a .given .now) (a .out .now) (a .from)
-    (no7 (a .n) (a .given .now) (a .out .now) (w .before .if1 .left) (b .before .before .if2 .left ∙ w .switches .ensures .0)
-    (b .before .if3 .left ∙ w .switches .ensures .0)
-    (λ e. c .before .if4 .taken (b .first-bad-bit .ensures ∙ e ∙ b .before .before .if2 .left)))
+    let few = few-yes (a .n) (w .before .if1 .left) in
+    let given = count-yes (a .n) (a .given .now) (b .before .before .if2 .left ∙ w .switches .ensures .0) in
+    let out = count-yes (a .n) (a .out .now) (b .before .if3 .left ∙ w .switches .ensures .0) in
+    let no = bits-no (a .given .now) (λ e. c .before .if4 .taken (b .first-bad-bit .ensures ∙ e ∙ b .before .before .if2 .left)) in
+    refused (a .n) (a .given .now) (a .out .now) (a .from) (first-no 3 (convertQuestions (a .n) (a .given .now) (a .out .now)) (few, (given, (out, no))))
     (c .refuse4 .ensures ∙ ap (refusal 7) (b .first-bad-bit .ensures))
 
 order-of-setting-in-requires : tie.Need-order-of-setting-in-requires

@@ -3,10 +3,15 @@
 use mathlib.Core.Path.{sym, ap, _∙_}
 use native.Mathlib.Omega.{arith}
 use lib.Seq.{length-take-le}
+use lib.ListN.{length}
 use borrow.Author.Needs.{needs}
-use Rattle.counts.specs.Counts.{W}
-use Rattle.ranks_order.specs.Ranks.{orderAt}
-use Rattle.ranks.proofs.Asked.{refused-17, refused-14, refused-13, refused-4, refused-5, RankAsked, taken}
+use borrow.Author.Tests.{lt-ltb, le-ltb}
+use Rattle.counts.specs.Counts.{W, E}
+use Rattle.questions.proofs.Lists.{first-no}
+use Rattle.questions.proofs.Asked.{listable-yes, listable-no, room-yes, room-no, count-yes, count-no, log-no}
+use Rattle.ranks_order.specs.Ranks.{factorial, orderAt}
+use Rattle.ranks.specs.Calls.{rankedQuestions}
+use Rattle.ranks.proofs.Asked.{refused, RankAsked, taken}
 use Rattle.ranks.proofs.ranked_order.Statement.{statement}
 use Rattle.ranks.proofs.ranked_order.Tie as tie
 use Rattle.ranks.proofs.ranked_order.Reads as reads
@@ -23,7 +28,9 @@ refuse-requires c κs = search needs
 
 returns : tie.Need-returns
 returns c =
-    refused-17 _ _ _ _ _ (omega (arith, c .before .if1 .taken)) (c .refuse .ensures)
+    let a = c .before .before .before .before .before .args in
+    let no = listable-no (a .n) (omega (arith, c .before .if1 .taken)) in
+    refused (a .n) (a .r) (a .order .now) (a .bits .now) (a .log .now) (first-no 0 (rankedQuestions (a .n) (a .r) (a .order .now) (a .bits .now) (a .log .now)) no) (c .refuse .ensures)
 
 count-orders-requires : tie.Need-count-orders-requires
 count-orders-requires c κs = search needs
@@ -37,8 +44,10 @@ refuse-requires-2 c κs = search needs
 returns-2 : tie.Need-returns-2
 returns-2 c =
     let b2 = c .before .before in
-    refused-14 _ _ _ _ _ (omega (arith, b2 .before .if1 .left))
-    (omega (arith, c .before .if2 .taken, b2 .count-orders .ensures .0)) (c .refuse2 .ensures)
+    let a = b2 .before .before .before .before .before .args in
+    let short = listable-yes (a .n) (omega (arith, b2 .before .if1 .left)) in
+    let no = le-ltb (a .r) (factorial (a .n)) (omega (arith, c .before .if2 .taken, b2 .count-orders .ensures .0)) in
+    refused (a .n) (a .r) (a .order .now) (a .bits .now) (a .log .now) (first-no 1 (rankedQuestions (a .n) (a .r) (a .order .now) (a .bits .now) (a .log .now)) (short, no)) (c .refuse2 .ensures)
 
 refuse-requires-3 : tie.Need-refuse-requires-3
 refuse-requires-3 c κs = search needs
@@ -47,8 +56,11 @@ returns-3 : tie.Need-returns-3
 returns-3 c =
     let b2 = c .before .before in
     let b3 = b2 .before in
-    refused-13 _ _ _ _ _ (omega (arith, b3 .before .if1 .left)) (omega (arith, b2 .if2 .left, b3 .count-orders .ensures .0))
-    (omega (arith, c .before .if3 .taken)) (c .refuse3 .ensures)
+    let a = b3 .before .before .before .before .before .args in
+    let short = listable-yes (a .n) (omega (arith, b3 .before .if1 .left)) in
+    let below = lt-ltb (a .r) (factorial (a .n)) (omega (arith, b2 .if2 .left, b3 .count-orders .ensures .0)) in
+    let no = room-no (a .n) (length (a .order .now)) (omega (arith, c .before .if3 .taken)) in
+    refused (a .n) (a .r) (a .order .now) (a .bits .now) (a .log .now) (first-no 2 (rankedQuestions (a .n) (a .r) (a .order .now) (a .bits .now) (a .log .now)) (short, (below, no))) (c .refuse3 .ensures)
 
 switches-requires : tie.Need-switches-requires
 switches-requires c κs = search needs
@@ -62,8 +74,12 @@ returns-4 c =
     let b3 = b2 .before in
     let b4 = b3 .before in
     let b5 = b4 .before in
-    refused-4 _ _ _ _ _ (omega (arith, b5 .before .if1 .left)) (omega (arith, b4 .if2 .left, b5 .count-orders .ensures .0)) (b3 .if3 .left)
-    (λ e. c .before .if4 .taken (e ∙ sym (b2 .switches .ensures .0))) (c .refuse4 .ensures)
+    let a = b5 .before .before .before .before .before .args in
+    let short = listable-yes (a .n) (omega (arith, b5 .before .if1 .left)) in
+    let below = lt-ltb (a .r) (factorial (a .n)) (omega (arith, b4 .if2 .left, b5 .count-orders .ensures .0)) in
+    let room = room-yes (a .n) (length (a .order .now)) (b3 .if3 .left) in
+    let no = count-no (a .n) (a .bits .now) (λ e. c .before .if4 .taken (e ∙ sym (b2 .switches .ensures .0))) in
+    refused (a .n) (a .r) (a .order .now) (a .bits .now) (a .log .now) (first-no 3 (rankedQuestions (a .n) (a .r) (a .order .now) (a .bits .now) (a .log .now)) (short, (below, (room, no)))) (c .refuse4 .ensures)
 
 entries-requires : tie.Need-entries-requires
 entries-requires c κs = search needs
@@ -82,8 +98,13 @@ returns-5 c =
     let b5 = b4 .before in
     let b6 = b5 .before in
     let b7 = b6 .before in
-    refused-5 _ _ _ _ _ (omega (arith, b7 .before .if1 .left)) (omega (arith, b6 .if2 .left, b7 .count-orders .ensures .0)) (b5 .if3 .left)
-    (b3 .if4 .left ∙ b4 .switches .ensures .0) (omega (arith, c .before .if5 .taken, b2 .entries .ensures .0)) (c .refuse5 .ensures)
+    let a = b7 .before .before .before .before .before .args in
+    let short = listable-yes (a .n) (omega (arith, b7 .before .if1 .left)) in
+    let below = lt-ltb (a .r) (factorial (a .n)) (omega (arith, b6 .if2 .left, b7 .count-orders .ensures .0)) in
+    let room = room-yes (a .n) (length (a .order .now)) (b5 .if3 .left) in
+    let count = count-yes (a .n) (a .bits .now) (b3 .if4 .left ∙ b4 .switches .ensures .0) in
+    let no = log-no (E (a .n)) (length (a .log .now)) (omega (arith, c .before .if5 .taken, b2 .entries .ensures .0)) in
+    refused (a .n) (a .r) (a .order .now) (a .bits .now) (a .log .now) (first-no 4 (rankedQuestions (a .n) (a .r) (a .order .now) (a .bits .now) (a .log .now)) (short, (below, (room, (count, no))))) (c .refuse5 .ensures)
 
 cast-set-ranked : tie.Need-cast-set-ranked
 cast-set-ranked c = search needs
