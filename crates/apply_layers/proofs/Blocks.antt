@@ -13,8 +13,8 @@ use lib.Seq.{take-suc, take-all, length-take-le, take-at, drop-at}
 use borrow.Author.Tests.{eqb-true}
 use Rattle.network.specs.Move.{switch}
 use Rattle.network.specs.Blocks.{cut}
-use Rattle.apply_words.specs.Bytes.{bytesSwitched}
-use Rattle.apply_exchange.proofs.Parts.{behind-bytes}
+use Rattle.exchange_words.specs.Bytes.{bytesSwitched}
+use Rattle.exchange_blocks.proofs.Parts.{behind-bytes}
 use Rattle.network.proofs.Blocks.{length-cut, cut-append, block-ends}
 use Rattle.network.proofs.Kept.{swap-two, switch-left}
 use Rattle.apply_layers.specs.Ran.{blocksIn, Lent, Pairs}

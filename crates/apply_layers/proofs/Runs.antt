@@ -18,7 +18,7 @@ use Rattle.network.proofs.Run.{run-append}
 use Rattle.network.proofs.RunBack.{Below}
 use Rattle.network.proofs.Shift.{length-shifted, shifted-append, shifted-twice, runs-before, runs-behind}
 use Rattle.entry_log.proofs.Written.{log-then}
-use Rattle.apply_words.specs.Bytes.{bytesSwitched}
+use Rattle.exchange_words.specs.Bytes.{bytesSwitched}
 use Rattle.apply_layers.specs.Ran.{blocksIn, Lent, Pairs, Ran, layerOf}
 use Rattle.apply_layers.proofs.Blocks.{cut-switched}
 

@@ -35,8 +35,8 @@ pub fn in_parts(
     while i < c {
         let s = bits[e + i];
         let a = i * stride; // the first byte of the lower block
-        apply_exchange::exchange_whole(blocks, whole, a, across, s);
-        apply_exchange::exchange_rest(blocks, rest, a + whole, across, s);
+        exchange_blocks::exchange_whole(blocks, whole, a, across, s);
+        exchange_blocks::exchange_rest(blocks, rest, a + whole, across, s);
         entry_log::write_packed(log, e + i, x);
         x += next;
         i += 1;
@@ -75,8 +75,8 @@ pub fn in_parts_back(
         x -= next;
         let s = bits[first + i];
         let a = i * stride;
-        apply_exchange::exchange_whole(blocks, whole, a, across, s);
-        apply_exchange::exchange_rest(blocks, rest, a + whole, across, s);
+        exchange_blocks::exchange_whole(blocks, whole, a, across, s);
+        exchange_blocks::exchange_rest(blocks, rest, a + whole, across, s);
         entry_log::write_packed(log, to, x);
         to += 1;
     }

@@ -6,7 +6,7 @@ use capi_values::CDrawn;
 use capi_values::CNumber;
 use capi_values::CRecord;
 use capi_values::CReport;
-use permutation_record::Permutation;
+use records::Permutation;
 ghost use mathlib.Core.Path.{_≡_};
 ghost use lib.ListN.{length};
 ghost use Rattle.answers.specs.Outcomes.{outcome, logged};
@@ -19,8 +19,8 @@ ghost use Rattle.counts.specs.Counts.{W, E};
 ghost use Rattle.network.specs.Wiring.{neighbour};
 ghost use Rattle.wirings.specs.declared.Topology.the-variants.{Paper, Neighbour};
 ghost use Rattle.numbers.specs.Numbers.{numberAt};
-ghost use Rattle.permutation_record.specs.Records as records;
-ghost use Rattle.ranks.specs.Calls.{ranked, rankedCall};
+ghost use Rattle.records.specs.Records as records;
+ghost use Rattle.listed_order.specs.Calls.{ranked, rankedCall};
 ghost use Rattle.shuffle.specs.Shuffled.{drawn, shuffleCall};
 ghost use Rattle.capi_values.specs.Crossing.{answerIn, numberIn, drawnIn, reportIn, toldIn, told, lending, recordIn, lent, counted};
 
@@ -83,7 +83,7 @@ pub extern "C" fn lomuveran_ranked_order(
     ensures { λ a. ⌜ ranked (answerIn a) (now (order .exit)) (now (bits .exit)) (now (log .exit))
         ≡ rankedCall n r (now (order .entry)) (now (bits .entry)) (now (log .entry)) ⌝ }
 {
-    capi_values::tell(ranks::ranked_order(n, r, order, bits, log))
+    capi_values::tell(listed_order::ranked_order(n, r, order, bits, log))
 }
 
 // ---- the neighbour wiring (02, F-6): a call of its own for each, so that no number for a wiring must be asked about
@@ -285,5 +285,5 @@ pub extern "C" fn lomuveran_permutation_inverse(entries: &mut [u16], fixed: usiz
 pub extern "C" fn lomuveran_permutation_fixed_points(entries: &[u16], fixed: usize) -> CAnswer
     ensures { λ r. ⌜ answerIn r ≡ records.fixedPointsCall (recordIn (now (entries .entry)) fixed) .answer ⌝ }
 {
-    capi_values::tell(permutation_record::fixed_points_of(entries.len(), fixed))
+    capi_values::tell(records::fixed_points_of(entries.len(), fixed))
 }

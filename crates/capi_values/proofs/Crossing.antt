@@ -18,7 +18,7 @@ use Rattle.numbers.specs.Reading.{meaning, answerOf}
 use Rattle.numbers.specs.declared.ReadNumber.{ReadNumber}
 use Rattle.numbers.specs.declared.ReadNumber.the-variants.{Number, Refused}
 use Rattle.permutation.specs.Permutations.{tabulate}
-use Rattle.permutation_record.specs.declared.Reply.{Reply}
+use Rattle.records.specs.declared.Reply.{Reply}
 use Rattle.permutation.proofs.Tables.{tabulate-more}
 use Rattle.shuffle.specs.declared.Drawn.{Drawn}
 use Rattle.shuffle.specs.Shuffled.{Shuffled, drawn}

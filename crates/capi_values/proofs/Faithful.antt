@@ -1,4 +1,4 @@
--- Entries cross whole: lent ones are the record that `permutation_record` makes of the same list, and a record's list comes back.
+-- Entries cross whole: lent ones are the record that `records` makes of the same list, and a record's list comes back.
 -- Assumes nothing.
 use mathlib.Core.Path.{_≡_, refl, sym, _∙_}
 use mathlib.Core.List.{List}
@@ -7,11 +7,11 @@ use native.Mathlib.Omega.{arith}
 use native.Mathlib.Decide.{decLt}
 use lib.ListN.{length, getD, replicate, List·getD-append, List·getD-eq-default}
 use Rattle.permutation.specs.Permutations.{tabulate, fixedPoints}
-use Rattle.permutation_record.specs.Records.{recordOf}
-use Rattle.permutation_record.specs.declared.Reply.{Reply}
+use Rattle.records.specs.Records.{recordOf}
+use Rattle.records.specs.declared.Reply.{Reply}
 use Rattle.permutation.proofs.Tables.{length-tabulate, tabulate-at, is-tabulate}
-use Rattle.permutation_entries.proofs.Entries.{is-padded-of}
-use Rattle.permutation_record.proofs.Records.{is-record-of}
+use Rattle.record_entries.proofs.Entries.{is-padded-of}
+use Rattle.records.proofs.Records.{is-record-of}
 use Rattle.capi_values.specs.Crossing.{recordIn, lending, spread, lent}
 use Rattle.capi_values.proofs.Crossing.{lent-accepted}
 

@@ -13,8 +13,8 @@ use Rattle.gauges.specs.declared.GaugeReport.{GaugeReport}
 use Rattle.numbers.specs.Numbers.{NumberAnswer}
 use Rattle.permutation.specs.Permutations.{tabulate}
 use Rattle.questions.specs.Asked.{placesFew}
-use Rattle.permutation_record.specs.declared.Permutation.{Permutation}
-use Rattle.permutation_record.specs.declared.Reply.{Reply}
+use Rattle.records.specs.declared.Permutation.{Permutation}
+use Rattle.records.specs.declared.Reply.{Reply}
 use Rattle.shuffle.specs.declared.Drawn.{Drawn}
 use Rattle.capi_values.specs.declared.CAnswer.{CAnswer}
 use Rattle.capi_values.specs.declared.CNumber.{CNumber}

@@ -2,8 +2,8 @@
 // and of a draw, a gauge's report, and a permutation as its entries and its number.
 use gauges::GaugeReport;
 use numbers::ReadNumber;
-use permutation_record::Permutation;
-use permutation_record::Reply;
+use records::Permutation;
+use records::Reply;
 use shuffle::Drawn;
 ghost use mathlib.Core.Path.{_≡_};
 ghost use lib.ListN.{length, getD};

@@ -28,7 +28,7 @@ fn compare(t: Tally, n: usize, r: usize, w: usize, right: [u16; 8], first: &[u16
     let mut list = [7u16; 8];
     let mut bits = [7u8; 16];
     let mut log = [77u16; 160];
-    let a = ranks::ranked_order(n, r, &mut list, &mut bits[..w], &mut log);
+    let a = listed_order::ranked_order(n, r, &mut list, &mut bits[..w], &mut log);
     let mut set_bits = [7u8; 16];
     let mut set_log = [77u16; 160];
     let b = control::control_bits(&right[..n], &mut set_bits[..w], &mut set_log);
@@ -51,7 +51,7 @@ fn refused(
     let mut list = [7u16; 8];
     let mut bits = [7u8; 16];
     let mut log = [77u16; 160];
-    let a = ranks::ranked_order(n, r, &mut list[..room], &mut bits[..w], &mut log[..words]);
+    let a = listed_order::ranked_order(n, r, &mut list[..room], &mut bits[..w], &mut log[..words]);
     let kept = same(&list, &bits, &log, &[7u16; 8], &[7u8; 16], &[77u16; 160]);
     tally::tallied(t, tally::same_answer(a, answers::refuse(number, 0)) & kept)
 }
@@ -65,7 +65,7 @@ fn first_log(n: usize, w: usize, words: usize) -> [u16; 160]
     let mut list = [7u16; 8];
     let mut bits = [7u8; 16];
     let mut log = [77u16; 160];
-    ranks::ranked_order(n, 0, &mut list[..n], &mut bits[..w], &mut log[..words]);
+    listed_order::ranked_order(n, 0, &mut list[..n], &mut bits[..w], &mut log[..words]);
     log
 }
 

@@ -2,8 +2,8 @@
 // list is changed by the plain computations, and after each call the record is compared with one rebuilt from that list.
 use crate::draws;
 use crate::plain;
-use permutation_record::Permutation;
-use permutation_record::Reply;
+use records::Permutation;
+use records::Reply;
 use tally::Tally;
 ghost use Prim.Native.Nat.{_≤_};
 

@@ -6,7 +6,7 @@ mod numbers;
 mod plain;
 mod refusals;
 
-use permutation_record::Permutation;
+use records::Permutation;
 use tally::Tally;
 ghost use Prim.Native.Nat.{_≤_};
 

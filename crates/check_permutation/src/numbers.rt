@@ -4,7 +4,7 @@ use crate::check_exchange;
 use crate::draws;
 use crate::plain;
 use crate::refusals;
-use permutation_record::Permutation;
+use records::Permutation;
 use tally::Tally;
 ghost use Prim.Native.Nat.{_≤_};
 

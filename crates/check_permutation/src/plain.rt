@@ -1,7 +1,7 @@
 // A plain second computation: marks and searches, on arrays of 1,024 entries.
 use answers::Answer;
-use permutation_record::Permutation;
-use permutation_record::Reply;
+use records::Permutation;
+use records::Reply;
 use tally::Tally;
 ghost use Prim.Native.Nat.{_≤_};
 

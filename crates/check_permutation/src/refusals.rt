@@ -1,8 +1,8 @@
 // Every refusal, with its place and with what comes back.
 use crate::draws;
 use crate::plain;
-use permutation_record::Permutation;
-use permutation_record::Reply;
+use records::Permutation;
+use records::Reply;
 use tally::Tally;
 ghost use Prim.Native.Nat.{_≤_};
 

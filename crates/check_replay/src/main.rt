@@ -99,7 +99,7 @@ fn check_listed(t: Tally, n: usize, r: usize) -> Tally
     let mut order = [0u16; 1024];
     let mut bits = [0u8; counts::MOST_SWITCHES];
     let mut log = [0u16; entry_log::MOST_SET_WORDS];
-    let answer = ranks::ranked_order(n, r, &mut order, &mut bits[..w], &mut log);
+    let answer = listed_order::ranked_order(n, r, &mut order, &mut bits[..w], &mut log);
     replayed(
         t,
         true,

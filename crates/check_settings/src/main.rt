@@ -52,7 +52,7 @@ fn show_front(input: &[u8], n: usize) {
 // 1,024 places: an order, a byte more and a byte less; entries that come again; the longest input, of entries in two bytes,
 // and a byte more.
 fn show_large() {
-    let mut input = [0u8; cmd_order::ORDER_ROOM];
+    let mut input = [0u8; cmd_read_order::ORDER_ROOM];
     let end = large(&mut input, 389, 389);
     show_front(&input, end);
     show_front(&input, end + 1);

@@ -1,4 +1,4 @@
--- What the questions of an accepted set say; those of mix and return: apply_questions, proofs/Asked; of a listed order: ranks,
+-- What the questions of an accepted set say; those of mix and return: apply_questions, proofs/Asked; of a listed order: listed_order,
 -- proofs/Asked.
 -- Assumes nothing.
 use mathlib.Core.Path.{_≡_}

@@ -38,10 +38,10 @@ use Rattle.wirings.specs.declared.Topology.{Topology}
 use Rattle.wirings.specs.declared.Topology.the-variants.{Paper}
 use Rattle.wirings.specs.Nets.{wiringOf}
 use Rattle.wirings.proofs.Halves.{lawful}
-use Rattle.ranks_order.specs.Ranks.{orderAt}
-use Rattle.ranks_order.proofs.OrderAt.{length-orderAt, order-permutation}
-use Rattle.ranks.specs.Calls.{rankedCall}
-use Rattle.ranks.proofs.Asked.{rank-asked, rank-numbered}
+use Rattle.orders_listed.specs.Ranks.{orderAt}
+use Rattle.orders_listed.proofs.OrderAt.{length-orderAt, order-permutation}
+use Rattle.listed_order.specs.Calls.{rankedCall}
+use Rattle.listed_order.proofs.Asked.{rank-asked, rank-numbered}
 use Rattle.claims.specs.Calls.{Direction, mixing, returning, Call, set, move, mix, return, rank, moving}
 use Rattle.claims.specs.Calls.{entriesDue, countDue, moveCall, movedBy, bitOf, described, replay, replayByRule}
 use Rattle.claims.specs.Calls.{outcomeOf, Accepted, countOf, due, dueEntries, written}

@@ -19,7 +19,7 @@ use Rattle.rows.specs.Rows.{numbersBytes, numbersQuestions, numbersAt, placePas
 use Rattle.sheets.specs.Sheet.{bitsNumber, fourteens, sheet}
 use Rattle.sheets.specs.Reading.{lowBits, bitsIn, allZero}
 use Rattle.sheets.specs.Calls.{writeQuestions, writeSheet, headQuestions, bitsFrom, bodyQuestions, readQuestions, readSheet, settingIn}
-use Rattle.shuffle_words.specs.Words.{chosen}
+use Rattle.shuffle_fair.specs.Words.{chosen}
 use Rattle.shuffle.specs.Shuffled.{stepped, shuffleCall}
 use Rattle.apply_questions.specs.Questions.{applyQuestions}
 use Rattle.wirings.specs.Nets.{wiringOf}

@@ -23,7 +23,7 @@ use Rattle.wirings.specs.declared.Topology.{Topology}
 use Rattle.wirings.specs.declared.Topology.the-variants.{Paper}
 use Rattle.wirings.specs.Nets.{wiringOf}
 use Rattle.wirings.proofs.Halves.{lawful}
-use Rattle.ranks_order.specs.Ranks.{orderAt}
+use Rattle.orders_listed.specs.Ranks.{orderAt}
 use Rattle.claims.specs.Calls.{mixing, returning, Call, set, move, rank}
 use Rattle.claims.specs.Calls.{described, wiringOfCall, Accepted, countOf, due, dueEntries, written}
 use Rattle.claims.specs.Positions.{OfNetwork, Positioned, FromTheMiddle}

@@ -18,8 +18,8 @@ use Rattle.sheets.specs.Sheet.{numbersFor}
 use Rattle.sheets.specs.Calls.{writeQuestions, writeSheet, placesAt, placesIn, fourteensAt}
 use Rattle.sheets.specs.Calls.{headQuestions, bodyQuestions, readQuestions, readSheet}
 use Rattle.shuffle.specs.Shuffled.{shuffleCall}
-use Rattle.permutation_record.specs.declared.Permutation.{Permutation}
-use Rattle.permutation_record.specs.Records.{replied, lengthAsks, fromListAsks, exchangeAsks, combineAsks, questionsOf, recordOf, listOf}
+use Rattle.records.specs.declared.Permutation.{Permutation}
+use Rattle.records.specs.Records.{replied, lengthAsks, fromListAsks, exchangeAsks, combineAsks, questionsOf, recordOf, listOf}
 use Rattle.network.specs.Blocks.{cut}
 use Rattle.gauges.specs.declared.Figures.{Figures}
 use Rattle.gauges.specs.Blocks.{readingsOf}
@@ -27,7 +27,7 @@ use Rattle.gauges.specs.Figures.{figuresOf}
 use Rattle.gauges.specs.Calls.{reportQuestions, reportOf, reportCall}
 use Rattle.wirings.specs.declared.Topology.{Topology}
 use Rattle.convert.specs.Calls.{convertQuestions, convertCall}
-use Rattle.cmd_order.specs.Orders.{countIn, entriesAt, orderIn, formQuestions, entryQuestions, orderQuestions, orderReport}
+use Rattle.cmd_read_order.specs.Orders.{countIn, entriesAt, orderIn, formQuestions, entryQuestions, orderQuestions, orderReport}
 use Rattle.claims.specs.PublicCalls.{PublicCall, logging, converting, drawing, writingSheet, readingSheet}
 use Rattle.claims.specs.PublicCalls.{readingNumber, readingOrder, reporting, fresh, fromList, exchanging}
 use Rattle.claims.specs.PublicCalls.{combining, inverting, askingHome, withRecord, asks}

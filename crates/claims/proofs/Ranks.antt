@@ -16,11 +16,11 @@ use Rattle.canonical.specs.Rule.{Canonical}
 use Rattle.wirings.specs.declared.Topology.the-variants.{Paper}
 use Rattle.wirings.specs.Nets.{wiringOf}
 use Rattle.permutation.specs.Permutations.{IsPermutation}
-use Rattle.ranks_order.specs.Ranks.{orderAt, ListedOnce}
-use Rattle.ranks_order.proofs.OrderAt.{length-orderAt, order-permutation}
-use Rattle.ranks_order.proofs.Listed.{listed-once}
-use Rattle.ranks.specs.Calls.{rankedCall}
-use Rattle.ranks.proofs.Asked.{rank-asked, rank-passes}
+use Rattle.orders_listed.specs.Ranks.{orderAt, ListedOnce}
+use Rattle.orders_listed.proofs.OrderAt.{length-orderAt, order-permutation}
+use Rattle.orders_listed.proofs.Listed.{listed-once}
+use Rattle.listed_order.specs.Calls.{rankedCall}
+use Rattle.listed_order.proofs.Asked.{rank-asked, rank-passes}
 use Rattle.claims.specs.Calls.{Call, set, rank, described, outcomeOf, Accepted, countOf, written}
 use Rattle.claims.specs.Demands.{Alike}
 use Rattle.claims.specs.Ranks.{AsSet, RoomToRank, Treated}

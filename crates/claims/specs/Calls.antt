@@ -24,8 +24,8 @@ use Rattle.wirings.specs.declared.Topology.the-variants.{Paper}
 use Rattle.wirings.specs.Nets.{wiringOf}
 use Rattle.apply.specs.Calls.{applyCallIn, inverseCallIn}
 use Rattle.control.specs.Calls.{setQuestions, setCallIn}
-use Rattle.ranks_order.specs.Ranks.{orderAt}
-use Rattle.ranks.specs.Calls.{Ranked, rankedQuestions, rankedCall}
+use Rattle.orders_listed.specs.Ranks.{orderAt}
+use Rattle.listed_order.specs.Calls.{Ranked, rankedQuestions, rankedCall}
 
 -- ---- the calls
 

@@ -10,16 +10,16 @@ use Rattle.numbers.specs.Numbers.{numberQuestions, numberAt}
 use Rattle.sheets.specs.Sheet.{sheet}
 use Rattle.sheets.specs.Calls.{writeQuestions, writeSheet, placesIn, readQuestions, readSheet}
 use Rattle.shuffle.specs.Shuffled.{shuffleAsks, shuffleCall}
-use Rattle.permutation_record.specs.declared.Permutation.{Permutation}
-use Rattle.permutation_record.specs.declared.Reply.{Reply}
-use Rattle.permutation_record.specs.Records.{recordOf, lengthAsks, fromListAsks, exchangeAsks, combineAsks, questionsOf}
-use Rattle.permutation_record.specs.Records.{identityCall, fromListCall, exchangeCall, combineCall, inverseCall, fixedPointsCall}
+use Rattle.records.specs.declared.Permutation.{Permutation}
+use Rattle.records.specs.declared.Reply.{Reply}
+use Rattle.records.specs.Records.{recordOf, lengthAsks, fromListAsks, exchangeAsks, combineAsks, questionsOf}
+use Rattle.records.specs.Records.{identityCall, fromListCall, exchangeCall, combineCall, inverseCall, fixedPointsCall}
 use Rattle.gauges.specs.declared.Figures.{Figures}
 use Rattle.gauges.specs.Figures.{noFigures}
 use Rattle.gauges.specs.Calls.{reportQuestions, reportCall}
 use Rattle.wirings.specs.declared.Topology.{Topology}
 use Rattle.convert.specs.Calls.{convertQuestions, convertCall}
-use Rattle.cmd_order.specs.Orders.{countIn, orderQuestions, orderReport}
+use Rattle.cmd_read_order.specs.Orders.{countIn, orderQuestions, orderReport}
 use Rattle.claims.specs.Calls.{Call, described, outcomeOf, due}
 
 -- ---- the calls, each with everything that it is handed

@@ -11,7 +11,7 @@ use Rattle.network.specs.Wiring.{paper}
 use Rattle.network.specs.Network.{network}
 use Rattle.canonical.specs.Rule.{Canonical}
 use Rattle.wirings.specs.declared.Topology.the-variants.{Paper}
-use Rattle.ranks_order.specs.Ranks.{orderAt, ListedOnce}
+use Rattle.orders_listed.specs.Ranks.{orderAt, ListedOnce}
 use Rattle.claims.specs.Carrying.{RoomToSet}
 use Rattle.claims.specs.Calls.{set, rank, described, outcomeOf, Accepted, countOf, written}
 

@@ -6,15 +6,15 @@ use Rattle.counts.proofs.Formula.{W-formula}
 use Rattle.canonical.proofs.Carrying.{carrying-canonical, canonical-obeys}
 use Rattle.canonical.proofs.Carry.{canonical-order}
 use Rattle.permutation.specs.Permutations.{IsPermutation}
-use Rattle.permutation_record.proofs.Made.{made-true, permutation-made}
-use Rattle.shuffle_words.proofs.Fair.{fair}
-use Rattle.shuffle_words.proofs.Words.{used-words}
+use Rattle.records.proofs.Made.{made-true, permutation-made}
+use Rattle.shuffle_fair.proofs.Fair.{fair}
+use Rattle.shuffle_fair.proofs.Words.{used-words}
 use Rattle.shuffle.proofs.Fair.{each-place}
 use Rattle.shuffle.proofs.Accepted.{order-permutation as drawn-permutation}
 use Rattle.wirings.specs.declared.Topology.{Topology}
 use Rattle.wirings.proofs.Halves.{lawful}
-use Rattle.ranks_order.proofs.OrderAt.{order-permutation}
-use Rattle.ranks_order.proofs.Dictionary.{rising}
+use Rattle.orders_listed.proofs.OrderAt.{order-permutation}
+use Rattle.orders_listed.proofs.Dictionary.{rising}
 use Rattle.gauges.proofs.Floors.{floor-is, floor-only}
 use Rattle.cmd_chart.proofs.Gauges.{gauges-held, gauges-rise}
 use Rattle.cmd_chart.proofs.Mixed.{chart-moved, chart-movedBack}

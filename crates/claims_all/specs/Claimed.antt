@@ -19,11 +19,11 @@ use Rattle.network.specs.Blocks.{moved, movedBack, orderOf}
 use Rattle.canonical.specs.Rule.{Canonical}
 use Rattle.canonical.specs.Obeys.{Obeys}
 use Rattle.permutation.specs.Permutations.{IsPermutation, fixedPoints}
-use Rattle.permutation_record.specs.declared.Permutation.{Permutation}
-use Rattle.permutation_record.specs.Records.{recordOf, listOf, reply, fixedPointsCall}
-use Rattle.permutation_record.specs.Made.{Made}
-use Rattle.shuffle_words.specs.Words.{chosen}
-use Rattle.shuffle_words.specs.Fair.{wordsLeaving, UsedWords}
+use Rattle.records.specs.declared.Permutation.{Permutation}
+use Rattle.records.specs.Records.{recordOf, listOf, reply, fixedPointsCall}
+use Rattle.records.specs.Made.{Made}
+use Rattle.shuffle_fair.specs.Words.{chosen}
+use Rattle.shuffle_fair.specs.Fair.{wordsLeaving, UsedWords}
 use Rattle.shuffle.specs.Shuffled.{orderFrom, wordsExchanging}
 use Rattle.wirings.specs.declared.Topology.{Topology}
 use Rattle.wirings.specs.declared.Topology.the-variants.{Paper}
@@ -31,7 +31,7 @@ use Rattle.wirings.specs.Nets.{wiringOf}
 use Rattle.control.specs.Calls.{setCall}
 use Rattle.apply.specs.Calls.{applyCall, inverseCall}
 use Rattle.convert.specs.Calls.{convertCall}
-use Rattle.ranks_order.specs.Ranks.{factorial, orderAt, Before}
+use Rattle.orders_listed.specs.Ranks.{factorial, orderAt, Before}
 use Rattle.gauges.specs.Blocks.{gaugeIn}
 use Rattle.gauges.specs.Figures.{floorMean, floorRemainder}
 use Rattle.gauges.specs.Floors.{Floored, Same}

@@ -21,8 +21,8 @@ use Rattle.network.proofs.Paper.{paper-lawful}
 use Rattle.permutation.specs.Permutations.{IsPermutation, firstBadEntry}
 use Rattle.permutation.proofs.Permutations.{passes-permutation}
 use Rattle.permutation.proofs.Tables.{length-tabulate, tabulate-at}
-use Rattle.shuffle_words.specs.Words.{Chosen, chosen}
-use Rattle.shuffle_words.proofs.Words.{low-words}
+use Rattle.shuffle_fair.specs.Words.{Chosen, chosen}
+use Rattle.shuffle_fair.proofs.Words.{low-words}
 use Rattle.shuffle.specs.Shuffled.{orderFrom}
 use Rattle.shuffle.proofs.Accepted.{order-permutation}
 use Rattle.steps_canonical.proofs.Whole.{setting-canonical}
@@ -32,8 +32,8 @@ use Rattle.rows.proofs.Rows.{numbers-length, bytes-most}
 use Rattle.sheets.specs.Sheet.{sheet}
 use Rattle.sheets.proofs.Writing.{sheet-length}
 use Rattle.steps.specs.Setting.{settingFor}
-use Rattle.cmd_order.specs.Orders.{countIn, entriesAt, orderIn, formQuestions, entryQuestions, orderQuestions}
-use Rattle.cmd_order.proofs.Asking.{places-small}
+use Rattle.cmd_read_order.specs.Orders.{countIn, entriesAt, orderIn, formQuestions, entryQuestions, orderQuestions}
+use Rattle.cmd_read_order.proofs.Asking.{places-small}
 use Rattle.cmd_draw.specs.Draw.{wordAt, bytesFor, wordsIn, orderBytes, drawQuestions, drawFrom, drawCall}
 use Rattle.cmd_draw.proofs.Drawn.{wanted}
 use Rattle.cmd_sheet.specs.Calls.{sheetFor, sheetCall}

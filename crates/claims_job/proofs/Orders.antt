@@ -15,7 +15,7 @@ use Rattle.permutation.proofs.Permutations.{permutation-passes}
 use Rattle.numbers.specs.Numbers.{numberQuestions, sevens}
 use Rattle.rows.specs.Rows.{numbersQuestions, numbersAt, placePast, Fourteens}
 use Rattle.rows.proofs.Rows.{Back, row-back}
-use Rattle.cmd_order.specs.Orders.{countIn, entriesAt, orderIn, endOf, formQuestions, entryQuestions, orderQuestions}
+use Rattle.cmd_read_order.specs.Orders.{countIn, entriesAt, orderIn, endOf, formQuestions, entryQuestions, orderQuestions}
 use Rattle.cmd_draw.specs.Draw.{orderBytes}
 use Rattle.numbers.proofs.Numbers.{number-back}
 use Rattle.claims_job.specs.Job.{Holds}

@@ -13,12 +13,12 @@ use Rattle.answers.specs.Outcomes.{Outcome, outcome}
 use Rattle.counts.specs.Counts.{W}
 use Rattle.network.specs.Wiring.{paper}
 use Rattle.permutation.specs.Permutations.{IsPermutation}
-use Rattle.shuffle_words.specs.Words.{chosen}
+use Rattle.shuffle_fair.specs.Words.{chosen}
 use Rattle.shuffle.specs.Shuffled.{orderFrom}
 use Rattle.canonical.specs.Rule.{ExactlyOne}
 use Rattle.sheets.specs.Sheet.{sheet}
-use Rattle.cmd_lines.specs.Text.{decimal, bitsText, line}
-use Rattle.cmd_order.specs.Orders.{countIn, orderIn, orderQuestions}
+use Rattle.cmd_text.specs.Text.{decimal, bitsText, line}
+use Rattle.cmd_read_order.specs.Orders.{countIn, orderIn, orderQuestions}
 use Rattle.cmd_draw.specs.Draw.{wordAt, wordsIn, orderBytes, drawCall}
 use Rattle.cmd_sheet.specs.Calls.{sheetCall}
 use Rattle.cmd_move.specs.Calls.{mixCall, unmixCall}

@@ -9,7 +9,7 @@ use Rattle.answers.specs.Questions.{Question, firstNo}
 use Rattle.answers.specs.Outcomes.{Outcome, settled}
 use Rattle.permutation.specs.Permutations.{tabulate}
 use Rattle.questions.specs.Asked.{placesFew}
-use Rattle.shuffle_words.specs.Words.{wordsLast}
+use Rattle.shuffle_fair.specs.Words.{wordsLast}
 use Rattle.shuffle.specs.Shuffled.{orderFrom}
 use Rattle.numbers.specs.Numbers.{sevens}
 use Rattle.rows.specs.Rows.{numbersBytes}

@@ -18,9 +18,9 @@ use Rattle.numbers.proofs.Reach.{place-small, asked-alike, read-alike}
 use Rattle.questions.specs.Asked.{listable}
 use Rattle.questions.proofs.Lists.{first-no}
 use Rattle.questions.proofs.Asked.{listable-yes, listable-no, end-yes, end-no}
-use Rattle.cmd_lines.specs.Text.{refusalLine}
-use Rattle.cmd_lines.specs.Written.{written}
-use Rattle.cmd_lines.proofs.Written.{text-written}
+use Rattle.cmd_text.specs.Text.{refusalLine}
+use Rattle.cmd_text.specs.Written.{written}
+use Rattle.cmd_text.proofs.Written.{text-written}
 use Rattle.cmd_list.specs.Listing.{ordersOf, lengthIn, pastLength, lengthQuestions, listQuestions, textOf, ordersText, listRoom, listCall}
 
 -- a text that was put at the front of the buffer, where it is the input's

@@ -13,8 +13,8 @@ use Rattle.steps.specs.Steps.{step1, step2, step3, step4, step5, step6}
 use Rattle.steps.specs.Sequence.{rounds, inputEntries, entriesOf, setEntries}
 use Rattle.steps.specs.Run.{subnetworks, runEntry, runEntries, runSet}
 use Rattle.numbers.specs.Numbers.{numberQuestions, numberAt}
-use Rattle.ranks_order.specs.Ranks.{factorial, orderAt}
-use Rattle.cmd_lines.specs.Text.{text, digits, decimal, characters, bitsText, refusalLine}
+use Rattle.orders_listed.specs.Ranks.{factorial, orderAt}
+use Rattle.cmd_text.specs.Text.{text, digits, decimal, characters, bitsText, refusalLine}
 use Rattle.cmd_list_line.specs.Line.{behindCommas, entriesText}
 use Rattle.cmd_list.specs.Listing.{orderLine, orderLines, listQuestions, ordersText}
 

@@ -14,10 +14,10 @@ use Rattle.network.specs.Wiring.{paper}
 use Rattle.network.proofs.Paper.{paper-lawful}
 use Rattle.steps.specs.Setting.{settingFor}
 use Rattle.steps_canonical.proofs.Setting.{setting-house}
-use Rattle.ranks_order.specs.Ranks.{factorial, orderAt}
-use Rattle.ranks_order.proofs.OrderAt.{order-permutation}
-use Rattle.cmd_lines.specs.Text.{text, decimal, character, characters, bitsText}
-use Rattle.cmd_lines.proofs.Decimal.{decimal-one, decimal-more}
+use Rattle.orders_listed.specs.Ranks.{factorial, orderAt}
+use Rattle.orders_listed.proofs.OrderAt.{order-permutation}
+use Rattle.cmd_text.specs.Text.{text, decimal, character, characters, bitsText}
+use Rattle.cmd_text.proofs.Decimal.{decimal-one, decimal-more}
 use Rattle.cmd_list.specs.Lines.{onFirst, linesIn, OneLineEach}
 use Rattle.cmd_list_line.specs.Line.{behindCommas, entriesText}
 use Rattle.cmd_list.specs.Listing.{orderLine, orderLines, ordersOf, lengthIn, listQuestions, ordersText}

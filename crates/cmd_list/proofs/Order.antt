@@ -20,13 +20,13 @@ use Rattle.network.specs.Log.{entryWords}
 use Rattle.network.proofs.Paper.{paper-lawful}
 use Rattle.steps.specs.Setting.{settingFor}
 use Rattle.steps_canonical.proofs.Setting.{setting-length}
-use Rattle.ranks_order.specs.Ranks.{factorial, orderAt}
-use Rattle.ranks_order.proofs.OrderAt.{length-orderAt, order-permutation}
-use Rattle.ranks.specs.Calls.{rankedQuestions, Ranked, ranked, rankedCall}
-use Rattle.ranks.proofs.Asked.{rank-passes}
-use Rattle.cmd_lines.specs.Text.{decimal}
-use Rattle.cmd_lines.proofs.Decimal.{decimal-one}
-use Rattle.cmd_lines.proofs.Lines.{bits-within}
+use Rattle.orders_listed.specs.Ranks.{factorial, orderAt}
+use Rattle.orders_listed.proofs.OrderAt.{length-orderAt, order-permutation}
+use Rattle.listed_order.specs.Calls.{rankedQuestions, Ranked, ranked, rankedCall}
+use Rattle.listed_order.proofs.Asked.{rank-passes}
+use Rattle.cmd_text.specs.Text.{decimal}
+use Rattle.cmd_text.proofs.Decimal.{decimal-one}
+use Rattle.cmd_text.proofs.Lines.{bits-within}
 use Rattle.cmd_list_line.specs.Line.{behindCommas, entriesText, lineOf}
 use Rattle.cmd_list.specs.Listing.{orderLine, orderLines}
 

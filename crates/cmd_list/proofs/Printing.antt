@@ -8,8 +8,8 @@ use native.Mathlib.Omega.{arith}
 use lib.ListN.{length}
 use Rattle.answers.specs.Buffers.{Put}
 use Rattle.answers.proofs.Putting.{put-none, put-then}
-use Rattle.ranks_order.specs.Ranks.{factorial}
-use Rattle.ranks_order.proofs.OrderAt.{factorial-small}
+use Rattle.orders_listed.specs.Ranks.{factorial}
+use Rattle.orders_listed.proofs.OrderAt.{factorial-small}
 use Rattle.cmd_list.specs.Listing.{orderLine, orderLines, ordersOf}
 use Rattle.cmd_list.proofs.Order.{lines-fit}
 

@@ -11,7 +11,7 @@ use Rattle.network.specs.Wiring.{paper}
 use Rattle.network.specs.Network.{network}
 use Rattle.canonical.specs.Rule.{Canonical}
 use Rattle.steps.specs.Setting.{settingFor}
-use Rattle.ranks_order.specs.Ranks.{factorial, orderAt}
+use Rattle.orders_listed.specs.Ranks.{factorial, orderAt}
 use Rattle.cmd_list.specs.Listing.{orderLine}
 
 -- a character at the front of the first line

@@ -7,9 +7,9 @@ use Rattle.network.specs.Wiring.{paper}
 use Rattle.questions.specs.Asked.{endsAt, listable}
 use Rattle.steps.specs.Setting.{settingFor}
 use Rattle.numbers.specs.Numbers.{numberQuestions, numberAt}
-use Rattle.ranks_order.specs.Ranks.{factorial, orderAt}
-use Rattle.cmd_lines.specs.Text.{refusalLine}
-use Rattle.cmd_lines.specs.Written.{Written, printed}
+use Rattle.orders_listed.specs.Ranks.{factorial, orderAt}
+use Rattle.cmd_text.specs.Text.{refusalLine}
+use Rattle.cmd_text.specs.Written.{Written, printed}
 use Rattle.cmd_list_line.specs.Line.{lineOf}
 
 -- ---- a line for each order

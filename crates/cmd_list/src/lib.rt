@@ -3,8 +3,8 @@ ghost use mathlib.Core.Path.{_≡_};
 ghost use Prim.Native.Nat.{_+_, _≤_, _<_};
 ghost use lib.ListN.{length, replicate};
 ghost use Rattle.answers.specs.Buffers.{Put};
-ghost use Rattle.ranks_order.specs.Ranks.{factorial};
-ghost use Rattle.cmd_lines.specs.Written.{written};
+ghost use Rattle.orders_listed.specs.Ranks.{factorial};
+ghost use Rattle.cmd_text.specs.Written.{written};
 ghost use Rattle.cmd_list.specs.Listing.{orderLine, ordersOf, listRoom, listCall};
 use numbers::ReadNumber;
 
@@ -25,13 +25,13 @@ pub fn orders_text(input: &[u8], out: &mut [u8; 17280]) -> usize
 {
     let read = numbers::read_number(input, 0);
     let ReadNumber::Number(n, next) = read else {
-        return cmd_lines::put_refusal(out, numbers::answer(read));
+        return cmd_text::put_refusal(out, numbers::answer(read));
     };
     if 6 < n {
-        return cmd_lines::put_refusal(out, answers::refuse(17, 0));
+        return cmd_text::put_refusal(out, answers::refuse(17, 0));
     }
     if next < input.len() {
-        return cmd_lines::put_refusal(out, answers::refuse(12, next));
+        return cmd_text::put_refusal(out, answers::refuse(12, next));
     }
     put_orders(out, n)
 }
@@ -41,7 +41,7 @@ fn put_orders(out: &mut [u8], n: usize) -> usize
     requires { ⌜ (n ≤ 6) × (17280 ≤ length (now out)) ⌝ }
     ensures { λ e. ⌜ Put (now (out .entry)) 0 (ordersOf n) e (now (out .exit)) ⌝ }
 {
-    let total = ranks_order::count_orders(n) as usize;
+    let total = orders_listed::count_orders(n) as usize;
     let mut at = 0;
     let mut r = 0;
     while r < total {
@@ -60,6 +60,6 @@ fn put_order(out: &mut [u8], at: usize, n: usize, r: usize) -> usize
     let mut bits = [0u8; 11];
     let mut log = [0u16; entry_log::ENTRY_WORDS * 34];
     let w = counts::switches(n);
-    ranks::ranked_order(n, r, &mut order, &mut bits[..w], &mut log);
+    listed_order::ranked_order(n, r, &mut order, &mut bits[..w], &mut log);
     cmd_list_line::put_line(out, at, &order[..n], &bits[..w])
 }

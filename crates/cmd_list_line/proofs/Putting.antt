@@ -9,8 +9,8 @@ use lib.ListN.{length, getD, drop, length-append, drop-of-length-le}
 use lib.Seq.{drop-cons}
 use Rattle.answers.specs.Buffers.{Put}
 use Rattle.answers.proofs.Putting.{put-none, put-then}
-use Rattle.cmd_lines.specs.Text.{text, decimal, bitsText}
-use Rattle.cmd_lines.proofs.Lines.{put-kept, room-first, room-second, room-third, put-both, put-three}
+use Rattle.cmd_text.specs.Text.{text, decimal, bitsText}
+use Rattle.cmd_text.proofs.Lines.{put-kept, room-first, room-second, room-third, put-both, put-three}
 use Rattle.cmd_list_line.specs.Line.{behindCommas, entriesText, lineOf}
 
 -- ---- entry by entry

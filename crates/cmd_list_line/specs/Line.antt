@@ -2,7 +2,7 @@
 -- Assumes nothing: these are definitions.
 use mathlib.Core.List.{List, [], _∷_, _++_}
 use Prim.Native.Nat.{ℕ}
-use Rattle.cmd_lines.specs.Text.{text, decimal, bitsText, line}
+use Rattle.cmd_text.specs.Text.{text, decimal, bitsText, line}
 
 -- entries, each behind a comma
 unfoldable pub behindCommas : List ℕ → List ℕ

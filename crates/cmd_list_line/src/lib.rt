@@ -11,9 +11,9 @@ pub fn put_line(out: &mut [u8], at: usize, order: &[u16], bits: &[u8]) -> usize
     ensures { λ e. ⌜ Put (now (out .entry)) at (lineOf (now (order .entry)) (now (bits .entry))) e (now (out .exit)) ⌝ }
 {
     let a = put_entries(out, at, order);
-    let b = cmd_lines::put_text(out, a, b" ");
-    let c = cmd_lines::put_bits(out, b, bits);
-    cmd_lines::put_text(out, c, b"\n")
+    let b = cmd_text::put_text(out, a, b" ");
+    let c = cmd_text::put_bits(out, b, bits);
+    cmd_text::put_text(out, c, b"\n")
 }
 
 // Entries in decimal, parted by commas.
@@ -24,11 +24,11 @@ fn put_entries(out: &mut [u8], at: usize, entries: &[u16]) -> usize
     if entries.len() == 0 {
         return at;
     }
-    let mut end = cmd_lines::put_decimal(out, at, entries[0] as usize);
+    let mut end = cmd_text::put_decimal(out, at, entries[0] as usize);
     let mut i = 1;
     while i < entries.len() {
-        let a = cmd_lines::put_text(out, end, b",");
-        end = cmd_lines::put_decimal(out, a, entries[i] as usize);
+        let a = cmd_text::put_text(out, end, b",");
+        end = cmd_text::put_decimal(out, a, entries[i] as usize);
         i += 1;
     }
     end

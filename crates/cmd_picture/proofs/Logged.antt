@@ -23,8 +23,8 @@ use Rattle.apply_questions.proofs.Asked.{Fits}
 use Rattle.apply.proofs.Outcome.{apply-accepted}
 use Rattle.answers.specs.Buffers.{Put}
 use Rattle.answers.proofs.Putting.{put-then}
-use Rattle.cmd_lines.specs.Text.{text, bitsText}
-use Rattle.cmd_lines.proofs.Lines.{put-kept}
+use Rattle.cmd_text.specs.Text.{text, bitsText}
+use Rattle.cmd_text.proofs.Lines.{put-kept}
 use Rattle.cmd_picture_line.specs.Line.{label, grouped}
 use Rattle.cmd_picture_line.proofs.Grouping.{grouped-long}
 use Rattle.cmd_picture.specs.Picture.{mark, columns, heading, row, rows, picture}

@@ -12,7 +12,7 @@ use lib.Dec.{eqb}
 use lib.ListN.{length, length-append}
 use Rattle.answers.specs.Buffers.{Put}
 use Rattle.answers.proofs.Putting.{put-none, put-then}
-use Rattle.cmd_lines.specs.Text.{character}
+use Rattle.cmd_text.specs.Text.{character}
 use Rattle.cmd_picture.specs.Picture.{mark}
 use Rattle.cmd_picture.specs.Inner.{rowIn, rowsIn}
 

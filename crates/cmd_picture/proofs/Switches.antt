@@ -11,8 +11,8 @@ use Rattle.answers.specs.Questions.{firstBadFrom}
 use Rattle.answers.proofs.Questions.{all-good}
 use Rattle.counts.specs.Counts.{W, byHalves}
 use Rattle.counts.proofs.Rule.{W-more}
-use Rattle.cmd_lines.specs.Text.{bitsText}
-use Rattle.cmd_lines.proofs.Lines.{bits-long, bits-within}
+use Rattle.cmd_text.specs.Text.{bitsText}
+use Rattle.cmd_text.proofs.Lines.{bits-long, bits-within}
 
 -- at most 49 switches: one computed test
 pub small : (n : ℕ) → n ≤ 16 → W n ≤ 49

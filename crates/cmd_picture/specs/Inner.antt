@@ -5,7 +5,7 @@ use Prim.Native.Nat.{ℕ, zero, suc}
 use lib.ListN.{length, getD}
 use Rattle.network.specs.Log.{entryAt}
 use Rattle.permutation.specs.Permutations.{tabulate}
-use Rattle.cmd_lines.specs.Text.{text}
+use Rattle.cmd_text.specs.Text.{text}
 use Rattle.cmd_picture_line.specs.Line.{label, grouped}
 use Rattle.cmd_picture.specs.Picture.{mark}
 

@@ -9,7 +9,7 @@ use lib.Dec.{ltb, eqb}
 use lib.ListN.{getD, drop}
 use Rattle.network.specs.Wiring.{paper}
 use Rattle.network.specs.Log.{Entry, applyEntries}
-use Rattle.cmd_lines.specs.Text.{text, character, bitsText}
+use Rattle.cmd_text.specs.Text.{text, character, bitsText}
 use Rattle.cmd_picture_line.specs.Line.{label, grouped}
 
 -- what the switch on two places shows at a place: its bit at the two, a bar between them, elsewhere the wire

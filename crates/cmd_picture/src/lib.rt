@@ -28,8 +28,8 @@ fn put_heading(out: &mut [u8], at: usize, n: usize, bits: &[u8]) -> usize
     ensures { λ r. ⌜ Put (now (out .entry)) at (heading n (now (bits .entry))) r (now (out .exit)) ⌝ }
 {
     let mut columns = [0u8; 49];
-    let w = cmd_lines::put_bits(&mut columns, 0, bits);
-    let a = cmd_lines::put_text(out, at, b"   ");
+    let w = cmd_text::put_bits(&mut columns, 0, bits);
+    let a = cmd_text::put_text(out, at, b"   ");
     cmd_picture_line::put_line(out, a, n, &columns[..w])
 }
 
@@ -77,10 +77,10 @@ fn mark_at(lower: usize, upper: usize, bit: u8, place: usize) -> u8
     ensures { λ r. ⌜ r ≡ mark lower upper bit place ⌝ }
 {
     if place == lower {
-        return cmd_lines::bit_character(bit);
+        return cmd_text::bit_character(bit);
     }
     if place == upper {
-        return cmd_lines::bit_character(bit);
+        return cmd_text::bit_character(bit);
     }
     if place <= lower {
         return b'-';

@@ -10,8 +10,8 @@ use Rattle.counts.specs.Counts.{W, up}
 use Rattle.counts.proofs.Rule.{W-more}
 use Rattle.answers.specs.Buffers.{Put}
 use Rattle.answers.proofs.Putting.{put-then}
-use Rattle.cmd_lines.specs.Text.{text}
-use Rattle.cmd_lines.proofs.Lines.{put-kept, room-second, room-third, put-three}
+use Rattle.cmd_text.specs.Text.{text}
+use Rattle.cmd_text.proofs.Lines.{put-kept, room-second, room-third, put-three}
 use Rattle.cmd_picture_line.specs.Line.{group, groups, topAt, bottomAt, outputAt, grouped}
 
 -- ---- one group

@@ -8,7 +8,7 @@ use Prim.Native.Char.{code}
 use lib.Dec.{ltb}
 use lib.ListN.{take, drop}
 use Rattle.counts.specs.Counts.{W, up}
-use Rattle.cmd_lines.specs.Text.{text}
+use Rattle.cmd_text.specs.Text.{text}
 
 -- a place's number, right-aligned in two columns, and a space
 abbrev pub highDigit : ℕ → ℕ

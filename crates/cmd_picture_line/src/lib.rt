@@ -5,7 +5,7 @@ ghost use Prim.Native.Nat.{_+_, _≤_, _<_};
 ghost use lib.ListN.{length};
 ghost use Rattle.counts.specs.Counts.{W};
 ghost use Rattle.answers.specs.Buffers.{Put};
-ghost use Rattle.cmd_lines.specs.Text.{text};
+ghost use Rattle.cmd_text.specs.Text.{text};
 ghost use Rattle.cmd_picture_line.specs.Line.{highDigit, label, group, groups, grouped};
 
 // The columns in their groups, and a newline.
@@ -19,7 +19,7 @@ pub fn put_line(out: &mut [u8], at: usize, n: usize, columns: &[u8]) -> usize
     let bottom = top + counts::switches(k);
     let output = bottom + counts::switches(n - k);
     let a = put_groups(out, at, top, bottom, output, columns);
-    cmd_lines::put_text(out, a, b"\n")
+    cmd_text::put_text(out, a, b"\n")
 }
 
 fn put_groups(out: &mut [u8], at: usize, a: usize, b: usize, c: usize, columns: &[u8]) -> usize
@@ -29,7 +29,7 @@ fn put_groups(out: &mut [u8], at: usize, a: usize, b: usize, c: usize, columns: 
     let top = put_group(out, at, &columns[..a]);
     let bottom = put_group(out, top, &columns[a..b]);
     let output = put_group(out, bottom, &columns[b..c]);
-    cmd_lines::put_text(out, output, &columns[c..])
+    cmd_text::put_text(out, output, &columns[c..])
 }
 
 fn put_group(out: &mut [u8], at: usize, columns: &[u8]) -> usize
@@ -39,8 +39,8 @@ fn put_group(out: &mut [u8], at: usize, columns: &[u8]) -> usize
     if columns.len() == 0 {
         return at;
     }
-    let end = cmd_lines::put_text(out, at, columns);
-    cmd_lines::put_text(out, end, b" ")
+    let end = cmd_text::put_text(out, at, columns);
+    cmd_text::put_text(out, end, b" ")
 }
 
 // A place's number and a space: three bytes.
@@ -49,7 +49,7 @@ pub fn put_label(out: &mut [u8], at: usize, place: usize) -> usize
     ensures { λ r. ⌜ Put (now (out .entry)) at (label place) r (now (out .exit)) ⌝ }
 {
     let text = [tens(place), 48 + (place % 10) as u8, 32];
-    cmd_lines::put_text(out, at, &text)
+    cmd_text::put_text(out, at, &text)
 }
 
 fn tens(place: usize) -> u8

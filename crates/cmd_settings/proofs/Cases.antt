@@ -14,8 +14,8 @@ use Rattle.steps.specs.Sequence.{rounds, inputEntries, entriesOf, setEntries}
 use Rattle.steps.specs.Run.{subnetworks, runEntry, runEntries, runSet}
 use Rattle.numbers.specs.Numbers.{numberQuestions, numberAt}
 use Rattle.rows.specs.Rows.{numbersQuestions, numbersAt, placePast}
-use Rattle.cmd_order.specs.Orders.{formQuestions, orderQuestions}
-use Rattle.cmd_lines.specs.Text.{text, digits, decimal, characters, bitsText, refusalLine}
+use Rattle.cmd_read_order.specs.Orders.{formQuestions, orderQuestions}
+use Rattle.cmd_text.specs.Text.{text, digits, decimal, characters, bitsText, refusalLine}
 use Rattle.cmd_settings.specs.Settings.{settingLines, settingsText}
 
 -- an input, and the text

@@ -5,8 +5,8 @@ use mathlib.Core.List.{List}
 use Prim.Native.Nat.{ℕ}
 use lib.ListN.{take}
 use Rattle.rows.proofs.Reach.{enough}
-use Rattle.cmd_order.specs.Orders.{orderRoom}
-use Rattle.cmd_order.proofs.Cut.{order-cut}
+use Rattle.cmd_read_order.specs.Orders.{orderRoom}
+use Rattle.cmd_read_order.proofs.Cut.{order-cut}
 use Rattle.cmd_settings.specs.Settings.{settingsText}
 use Rattle.cmd_settings.proofs.Printing.{text-of}
 

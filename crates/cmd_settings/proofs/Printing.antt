@@ -11,15 +11,15 @@ use Rattle.answers.specs.Questions.{Verdict, allYes, noAt, firstNo}
 use Rattle.answers.specs.Outcomes.{answerOf, bufferOf, Outcome, outcome}
 use Rattle.counts.specs.Counts.{W, E}
 use Rattle.answers.specs.Buffers.{Put}
-use Rattle.cmd_lines.specs.Text.{decimal, refusalLine}
-use Rattle.cmd_lines.specs.Written.{written}
-use Rattle.cmd_lines.proofs.Decimal.{digits-few}
-use Rattle.cmd_lines.proofs.Lines.{bits-within}
-use Rattle.cmd_lines.proofs.Written.{text-written}
+use Rattle.cmd_text.specs.Text.{decimal, refusalLine}
+use Rattle.cmd_text.specs.Written.{written}
+use Rattle.cmd_text.proofs.Decimal.{digits-few}
+use Rattle.cmd_text.proofs.Lines.{bits-within}
+use Rattle.cmd_text.proofs.Written.{text-written}
 use Rattle.network.specs.Wiring.{paper}
 use Rattle.steps.specs.Setting.{settingFor}
-use Rattle.cmd_order.specs.Orders.{countIn, orderIn, orderQuestions, orderSetting, reported, orderReport}
-use Rattle.cmd_order.proofs.Outcomes.{Accepted, order-accepted, report-outcome, report-entries}
+use Rattle.cmd_read_order.specs.Orders.{countIn, orderIn, orderQuestions, orderSetting, reported, orderReport}
+use Rattle.cmd_read_order.proofs.Outcomes.{Accepted, order-accepted, report-outcome, report-entries}
 use Rattle.cmd_settings.specs.Settings.{settingLines, textOf, settingsText, settingsCall}
 
 -- ---- room

@@ -6,9 +6,9 @@ use Rattle.answers.specs.Questions.{Verdict, allYes, noAt, firstNo}
 use Rattle.counts.specs.Counts.{E}
 use Rattle.network.specs.Wiring.{paper}
 use Rattle.steps.specs.Setting.{settingFor}
-use Rattle.cmd_order.specs.Orders.{countIn, orderIn, orderQuestions}
-use Rattle.cmd_lines.specs.Text.{decimal, bitsText, line, refusalLine}
-use Rattle.cmd_lines.specs.Written.{Written, printed}
+use Rattle.cmd_read_order.specs.Orders.{countIn, orderIn, orderQuestions}
+use Rattle.cmd_text.specs.Text.{decimal, bitsText, line, refusalLine}
+use Rattle.cmd_text.specs.Written.{Written, printed}
 
 -- ---- the text
 

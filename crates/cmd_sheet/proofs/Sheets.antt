@@ -27,8 +27,8 @@ use Rattle.sheets.specs.Calls.{writeSheet, Writable}
 use Rattle.sheets.proofs.Round.{write-accepts}
 use Rattle.sheets.proofs.Writing.{sheet-length}
 use Rattle.steps.specs.Setting.{settingFor}
-use Rattle.cmd_order.specs.Orders.{countIn, orderIn, formQuestions, entryQuestions, orderQuestions, orderSetting}
-use Rattle.cmd_order.proofs.Outcomes.{Accepted, order-accepted}
+use Rattle.cmd_read_order.specs.Orders.{countIn, orderIn, formQuestions, entryQuestions, orderQuestions, orderSetting}
+use Rattle.cmd_read_order.proofs.Outcomes.{Accepted, order-accepted}
 use Rattle.cmd_sheet.specs.Calls.{sheetFor, sheetCall}
 
 -- the setting of an order that passes question 6 consists of bits

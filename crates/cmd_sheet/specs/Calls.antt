@@ -8,7 +8,7 @@ use Rattle.answers.specs.Outcomes.{Outcome, settled}
 use Rattle.sheets.specs.Sheet.{sheet}
 use Rattle.network.specs.Wiring.{paper}
 use Rattle.steps.specs.Setting.{settingFor}
-use Rattle.cmd_order.specs.Orders.{countIn, orderIn, orderQuestions}
+use Rattle.cmd_read_order.specs.Orders.{countIn, orderIn, orderQuestions}
 
 -- of its canonical setting
 abbrev pub sheetFor : List ℕ → List ℕ

@@ -9,7 +9,7 @@ pub fn order_sheet(input: &[u8], out: &mut [u8; sheets::SHEET_ROOM]) -> Answer
     ensures { λ r. ⌜ outcome r (now (out .exit)) ≡ sheetCall (now (input .entry)) (now (out .entry)) ⌝ }
 {
     let mut bits = [0u8; counts::MOST_SWITCHES];
-    let set = cmd_order::order_setting(input, &mut bits);
+    let set = cmd_read_order::order_setting(input, &mut bits);
     let read = set.answer;
     if read.number != 0 {
         return read;

@@ -18,9 +18,9 @@ use Rattle.network.proofs.Paper.{paper-lawful}
 use Rattle.network.proofs.Order.{length-order}
 use Rattle.sheets.specs.Calls.{placesIn, readQuestions, settingIn, settingOutcome, readSetting}
 use Rattle.answers.proofs.Putting.{put-then, put-length}
-use Rattle.cmd_lines.specs.Text.{text, decimal, bitsText, line}
-use Rattle.cmd_lines.proofs.Decimal.{digits-few}
-use Rattle.cmd_lines.proofs.Lines.{put-kept, bits-within}
+use Rattle.cmd_text.specs.Text.{text, decimal, bitsText, line}
+use Rattle.cmd_text.proofs.Decimal.{digits-few}
+use Rattle.cmd_text.proofs.Lines.{put-kept, bits-within}
 use Rattle.numbers.specs.Reading.{answerOf}
 use Rattle.numbers.specs.declared.ReadNumber.{ReadNumber}
 use Rattle.numbers.specs.declared.ReadNumber.the-variants.{Number, Refused}

@@ -10,8 +10,8 @@ use lib.ListN.{length, getD, take, length-append}
 use lib.Seq.{take-suc, take-all}
 use Rattle.answers.specs.Buffers.{Put}
 use Rattle.answers.proofs.Putting.{put-none, put-then}
-use Rattle.cmd_lines.specs.Text.{text, decimal}
-use Rattle.cmd_lines.proofs.Decimal.{digits-few}
+use Rattle.cmd_text.specs.Text.{text, decimal}
+use Rattle.cmd_text.proofs.Decimal.{digits-few}
 use Rattle.cmd_picture.specs.Picture.{picture}
 use Rattle.cmd_show.specs.Show.{spaced, orderText, pictured}
 

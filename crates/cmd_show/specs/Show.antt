@@ -10,7 +10,7 @@ use Rattle.answers.specs.Outcomes.{Outcome, settled}
 use Rattle.network.specs.Wiring.{paper}
 use Rattle.network.specs.Blocks.{orderOf}
 use Rattle.sheets.specs.Calls.{placesIn, readQuestions, settingIn}
-use Rattle.cmd_lines.specs.Text.{text, decimal, bitsText, line}
+use Rattle.cmd_text.specs.Text.{text, decimal, bitsText, line}
 use Rattle.cmd_picture.specs.Picture.{picture}
 
 -- the entries of an order, each behind a space

@@ -9,7 +9,7 @@ ghost use Rattle.counts.specs.Counts.{W};
 ghost use Rattle.network.specs.Wiring.{paper};
 ghost use Rattle.network.specs.Blocks.{orderOf};
 ghost use Rattle.answers.specs.Buffers.{Put};
-ghost use Rattle.cmd_lines.specs.Text.{text, decimal, line};
+ghost use Rattle.cmd_text.specs.Text.{text, decimal, line};
 ghost use Rattle.cmd_show.specs.Show.{spaced, orderText, pictured, settingText, showCall};
 use answers::Answer;
 use numbers::ReadNumber;
@@ -30,8 +30,8 @@ fn put_setting(out: &mut [u8], n: usize, bits: &[u8]) -> usize
     requires { ⌜ (n ≤ 1024) × (W n ≤ 9217) × (length (now bits) ≡ W n) × Bits (now bits) × (16384 ≤ length (now out)) ⌝ }
     ensures { λ r. ⌜ Put (now (out .entry)) 0 (settingText n (now (bits .entry))) r (now (out .exit)) ⌝ }
 {
-    let a = cmd_lines::put_number(out, 0, b"places ", n);
-    let b = cmd_lines::put_setting(out, a, bits);
+    let a = cmd_text::put_number(out, 0, b"places ", n);
+    let b = cmd_text::put_setting(out, a, bits);
     put_rest(out, b, n, bits)
 }
 
@@ -66,9 +66,9 @@ fn put_order(out: &mut [u8], at: usize, order: &[u16]) -> usize
     ensures { λ r. ⌜ Put (now (out .entry)) at (line "order" (orderText (now (order .entry)))) r (now (out .exit))
         × (r ≤ at + 8 + 6 * length (now (order .entry))) ⌝ }
 {
-    let a = cmd_lines::put_text(out, at, b"order");
+    let a = cmd_text::put_text(out, at, b"order");
     let b = put_order_text(out, a, order);
-    cmd_lines::put_text(out, b, b"\n")
+    cmd_text::put_text(out, b, b"\n")
 }
 
 fn put_order_text(out: &mut [u8], at: usize, order: &[u16]) -> usize
@@ -77,7 +77,7 @@ fn put_order_text(out: &mut [u8], at: usize, order: &[u16]) -> usize
         × (r ≤ at + 2 + 6 * length (now (order .entry))) ⌝ }
 {
     if order.len() == 0 {
-        return cmd_lines::put_text(out, at, b" -");
+        return cmd_text::put_text(out, at, b" -");
     }
     let mut end = at;
     let mut j = 0;
@@ -92,6 +92,6 @@ fn put_entry(out: &mut [u8], at: usize, v: u16) -> usize
     requires { ⌜ at + 6 ≤ length (now out) ⌝ }
     ensures { λ r. ⌜ Put (now (out .entry)) at (text " " ++ decimal v) r (now (out .exit)) × (r ≤ at + 6) ⌝ }
 {
-    let a = cmd_lines::put_text(out, at, b" ");
-    cmd_lines::put_decimal(out, a, v as usize)
+    let a = cmd_text::put_text(out, at, b" ");
+    cmd_text::put_decimal(out, a, v as usize)
 }

@@ -15,7 +15,7 @@ use Rattle.network.specs.Wiring.{Wiring}
 use Rattle.network.specs.Log.{words}
 use Rattle.steps.specs.Sequence.{setEntries}
 use Rattle.steps.specs.Setting.{settingFor}
-use Rattle.control_order.specs.Inner.{SetsIn}
+use Rattle.setter.specs.Inner.{SetsIn}
 use Rattle.control.specs.Calls.{setQuestions, setCallIn}
 
 module _ (order bits log : List ℕ) where

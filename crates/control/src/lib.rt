@@ -37,5 +37,5 @@ pub fn control_bits_in(
     if bad != n {
         return answers::refuse(6, bad);
     }
-    answers::accept(control_order::set_order_in(t, order, bits, log))
+    answers::accept(setter::set_order_in(t, order, bits, log))
 }

@@ -22,7 +22,7 @@ use Rattle.steps.proofs.Places.{Unlike, half-unlike}
 use Rattle.steps_canonical.specs.Table.{Holding}
 use Rattle.steps_canonical.proofs.Level.{halfOf, orderIn, half-order, top-holding, bottom-holding}
 use Rattle.steps_canonical.proofs.Whole.{net-sets}
-use Rattle.control_numbers.proofs.Numbers.{digit-small}
+use Rattle.select.proofs.Numbers.{digit-small}
 use Rattle.wirings.specs.declared.Topology.{Topology}
 use Rattle.wirings.specs.Nets.{wiringOf}
 use Rattle.wirings.proofs.Halves.{lawful}

@@ -1,6 +1,6 @@
 // The setter's steps on hidden tables in their sequence, by recursion on the halves. Hidden: the tables, f, c, g, s, any and the
 // bits. No branch and no index below depends on one of these. `row` and `pairs` are lent for a network's rounds alone: what they hold
-// before and after does not matter. Public for the crate `control_order`, whose callers have asked the questions of `set`: so
+// before and after does not matter. Public for the crate `setter`, whose callers have asked the questions of `set`: so
 // `set_network` may `require` sizes, and that its places hold an order.
 ghost use mathlib.Core.Path.{_≡_};
 ghost use mathlib.Core.List.{List, [], _∷_, _++_};

@@ -18,7 +18,7 @@ use Rattle.steps.specs.Sweeps.{store, each, marked, noneMarked, lowestUnmarked}
 use Rattle.steps.specs.Steps.{digit}
 use Rattle.steps.proofs.Places.{Unlike}
 use Rattle.steps.proofs.Sweeps.{length-each, each-at, each-off}
-use Rattle.control_numbers.proofs.Numbers.{digit-is}
+use Rattle.select.proofs.Numbers.{digit-is}
 use Rattle.control_rows.specs.Rows.{sixteens}
 use Rattle.control_pairs.specs.Pairs.{markIn, bitIn, marksIn, bitsIn, noneIn, Numbered, Unmarked, Settled}
 use Rattle.control_pairs.proofs.Settling.{stored-at, numbered-after}

@@ -14,7 +14,7 @@ use lib.Seq.{getD-set-same, getD-set-other, set-getD}
 use borrow.Author.Tests.{lt-ltb, le-ltb, eq-eqb, ne-eqb}
 use Rattle.steps.specs.Sweeps.{store, each}
 use Rattle.steps.specs.Steps.{digit}
-use Rattle.control_numbers.proofs.Numbers.{digit-is, byte-is}
+use Rattle.select.proofs.Numbers.{digit-is, byte-is}
 use Rattle.control_rows.specs.Rows.{sixteens}
 use Rattle.control_pairs.specs.Pairs.{markIn, bitIn, bitsIn, Numbered}
 

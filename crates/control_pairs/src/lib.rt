@@ -36,9 +36,9 @@ pub fn settle(pairs: &mut [u16], k: usize, p: u16, bit: u16) -> u16
     let mut c = 0u16;
     let mut i = 0;
     while i < r {
-        let y = control_numbers::pick((c == p) as u16, v, pairs[i]);
+        let y = select::pick((c == p) as u16, v, pairs[i]);
         pairs[i] = y;
-        low = control_numbers::least(low, y);
+        low = select::least(low, y);
         c += 1;
         i += 1;
     }
@@ -60,7 +60,7 @@ pub fn give_bits(bits: &mut [u8], b: usize, n: usize, pairs: &[u16])
     while i < n {
         let x = pairs[i];
         let old = wide(bits[b + i]);
-        bits[b + i] = control_numbers::pick(control_numbers::below(x, 1024), old, x / 2048) as u8;
+        bits[b + i] = select::pick(select::below(x, 1024), old, x / 2048) as u8;
         i += 1;
     }
 }

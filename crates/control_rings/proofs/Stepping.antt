@@ -18,7 +18,7 @@ use Rattle.steps.specs.State.{State}
 use Rattle.steps.specs.Steps.{other, digit, step1, step2, step3}
 use Rattle.wirings.specs.declared.Topology.{Topology}
 use Rattle.wirings.specs.Nets.{wiringOf}
-use Rattle.control_numbers.proofs.Numbers.{digit-is}
+use Rattle.select.proofs.Numbers.{digit-is}
 use Rattle.control_sides.proofs.Bounds.{other-below, first-below}
 use Rattle.control_sweeps.proofs.Bounds.{pick-below}
 use Rattle.control_rows.specs.Rows.{Gathered}

@@ -36,8 +36,8 @@ pub fn step1(
     let m = net.size;
     let k = ((m + 1) / 2) as u16;
     let last = control_sides::first_of(t, k, k - 1);
-    let f = control_numbers::pick(w.any, w.f, last);
-    let c = control_numbers::pick(w.any, w.c, last);
+    let f = select::pick(w.any, w.f, last);
+    let c = select::pick(w.any, w.c, last);
     let g = control_rows::look_in(row, m, f);
     let e = w.e;
     entry_log::write_entry(log, e, 1, net.start, m, w.b);
@@ -95,11 +95,11 @@ fn turn(
     ensures { λ r. ⌜ r ≡ turned (wiringOf t) k low any w ⌝ }
 {
     let f = control_sides::other_of(t, k, w.s);
-    let again = control_numbers::equal(f, w.c) * control_numbers::below(low, k);
+    let again = select::equal(f, w.c) * select::below(low, k);
     let next = control_sides::first_of(t, k, low);
     control_walk::Walk {
-        f: control_numbers::pick(again, next, f),
-        c: control_numbers::pick(again, next, w.c),
+        f: select::pick(again, next, f),
+        c: select::pick(again, next, w.c),
         g: w.g,
         s: w.s,
         any,
@@ -134,7 +134,7 @@ pub fn step3(
     let pair = control_sides::pair_of(t, few, w.s);
     let bit = 1 - control_sides::side_of(t, few, w.s);
     let low = control_pairs::settle(pairs, k, pair, bit);
-    let any = w.any | control_numbers::below(pair, few);
+    let any = w.any | select::below(pair, few);
     entry_log::write_entry(log, w.e, 3, net.start, m, w.b);
     turn(t, few, low, any, w)
 }

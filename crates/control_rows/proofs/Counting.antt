@@ -15,7 +15,7 @@ use lib.ListN.{getD}
 use borrow.Author.Tests.{lt-ltb, le-ltb, eq-eqb, ne-eqb}
 use Rattle.steps.specs.Sweeps.{look, seek}
 use Rattle.steps.specs.Steps.{digit}
-use Rattle.control_numbers.proofs.Numbers.{digit-small, digit-byte, digit-is, masked}
+use Rattle.select.proofs.Numbers.{digit-small, digit-byte, digit-is, masked}
 use Rattle.control_rows.specs.Rows.{sixteens, Padded}
 use Rattle.control_rows.proofs.Rows.{seek-padded}
 

@@ -50,7 +50,7 @@ pub fn look_in(row: &[u16; 1024], m: usize, p: u16) -> u16
     requires { ⌜ (0 < m) × (m ≤ 1024) × (p < 32768) ⌝ }
     ensures { λ r. ⌜ r ≡ look (λ i. i) m (now (row .entry)) p ⌝ }
 {
-    let past = control_numbers::mask(control_numbers::at_least(p, m as u16));
+    let past = select::mask(select::at_least(p, m as u16));
     let q = p | past;
     let r = (m + 15) / 16 * 16;
     // never so: it spares the compiled loop a way round it
@@ -61,7 +61,7 @@ pub fn look_in(row: &[u16; 1024], m: usize, p: u16) -> u16
     let mut c = 0u16;
     let mut i = 0;
     while i < r {
-        g = g | (number(row[i]) & control_numbers::mask((c == q) as u16));
+        g = g | (number(row[i]) & select::mask((c == q) as u16));
         c += 1;
         i += 1;
     }
@@ -82,10 +82,10 @@ pub fn seek_in(row: &[u16; 1024], m: usize, a: u16) -> u16
     let mut c = 1u16;
     let mut i = 0;
     while i < r {
-        best = control_numbers::most(c & control_numbers::mask((row[i] == a) as u16), best);
+        best = select::most(c & select::mask((row[i] == a) as u16), best);
         c += 1;
         i += 1;
     }
-    let found = control_numbers::at_least(best, 1);
-    control_numbers::pick(found, best - found, a)
+    let found = select::at_least(best, 1);
+    select::pick(found, best - found, a)
 }

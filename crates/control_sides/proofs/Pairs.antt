@@ -10,7 +10,7 @@ use lib.Dec.{ltb, eqb}
 use borrow.Author.Tests.{lt-ltb, le-ltb, eq-eqb, ne-eqb}
 use Rattle.network.specs.Wiring.{paper, neighbour}
 use Rattle.steps.specs.Steps.{other, digit}
-use Rattle.control_numbers.proofs.Numbers.{masked}
+use Rattle.select.proofs.Numbers.{masked}
 
 -- ---- the paper's wiring
 

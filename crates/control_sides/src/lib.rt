@@ -14,7 +14,7 @@ pub fn pair_of(t: wirings::Topology, k: u16, p: u16) -> u16
     ensures { λ r. ⌜ r ≡ wiringOf t .dec k p .0 ⌝ }
 {
     match t {
-        wirings::Topology::Paper => p - k * control_numbers::at_least(p, k),
+        wirings::Topology::Paper => p - k * select::at_least(p, k),
         wirings::Topology::Neighbour => p / 2,
     }
 }
@@ -25,7 +25,7 @@ pub fn side_of(t: wirings::Topology, k: u16, p: u16) -> u16
     ensures { λ r. ⌜ r ≡ digit (wiringOf t .dec k p .1) ⌝ }
 {
     match t {
-        wirings::Topology::Paper => control_numbers::at_least(p, k),
+        wirings::Topology::Paper => select::at_least(p, k),
         wirings::Topology::Neighbour => p % 2,
     }
 }
@@ -36,7 +36,7 @@ pub fn other_of(t: wirings::Topology, k: u16, p: u16) -> u16
     ensures { λ r. ⌜ r ≡ other (wiringOf t) k p ⌝ }
 {
     match t {
-        wirings::Topology::Paper => p + k - 2 * k * control_numbers::at_least(p, k),
+        wirings::Topology::Paper => p + k - 2 * k * select::at_least(p, k),
         wirings::Topology::Neighbour => p + 1 - 2 * (p % 2),
     }
 }
@@ -58,7 +58,7 @@ pub fn value_of(t: wirings::Topology, k: u16, v: u16, s: u16) -> u16
     ensures { λ r. ⌜ r ≡ wiringOf t .enc k (v, eqb s 1) ⌝ }
 {
     match t {
-        wirings::Topology::Paper => v + (k & control_numbers::mask(s)),
+        wirings::Topology::Paper => v + (k & select::mask(s)),
         wirings::Topology::Neighbour => 2 * v + s,
     }
 }

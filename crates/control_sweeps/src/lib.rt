@@ -50,12 +50,12 @@ fn act_by(
         let q = p + gap;
         let x = vals[p];
         let y = vals[q];
-        vals[p] = control_numbers::pick(s, y, x);
-        vals[q] = control_numbers::pick(s, x, y);
+        vals[p] = select::pick(s, y, x);
+        vals[q] = select::pick(s, x, y);
         let t = trails[p];
         let u = trails[q];
-        trails[p] = control_numbers::pick(s, u, t);
-        trails[q] = control_numbers::pick(s, t, u);
+        trails[p] = select::pick(s, u, t);
+        trails[q] = select::pick(s, t, u);
         i += 1;
     }
 }

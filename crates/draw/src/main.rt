@@ -1,17 +1,17 @@
 // `draw N`: an order of N places from random bytes on standard input (01: draw; 02, F-5), as `settings` and `sheet` read it.
 // It reads at most 4·(N + 64) of them, so that an input without end will do.
-use cmd_streams::Argument;
-use cmd_words::Program;
+use cmd_arguments::Argument;
+use cmd_usage::Program;
 
 fn draw(n: usize, bytes: &[u8]) {
     let mut order = [0u8; 2050];
     let answer = cmd_draw::draw_order(n, bytes, &mut order);
     let made = answer.count;
-    cmd_console::finish(Program::Draw, answer, &order[..made]);
+    cmd_io::finish(Program::Draw, answer, &order[..made]);
 }
 
 fn read(bytes: &mut [u8], n: usize) {
-    let got = cmd_console::read_input(Program::Draw, bytes);
+    let got = cmd_io::read_input(Program::Draw, bytes);
     if got.failed {
         return;
     }
@@ -20,7 +20,7 @@ fn read(bytes: &mut [u8], n: usize) {
 }
 
 fn main() {
-    let last = cmd_console::last_number(Program::Draw, 1);
+    let last = cmd_io::last_number(Program::Draw, 1);
     let Argument::Number(n) = last else {
         return;
     };

@@ -29,7 +29,7 @@ pub fn setting_of_order_in(t: wirings::Topology, order: &[u16], bits: &mut [u8])
     ensures { λ r. ⌜ (r ≡ E (length (now (order .entry)))) × (now (bits .exit) ≡ settingFor (wiringOf t) (now (order .entry))) ⌝ }
 {
     let mut log = [0u16; entry_log::MOST_SET_WORDS];
-    control_order::set_order_in(t, order, bits, &mut log)
+    setter::set_order_in(t, order, bits, &mut log)
 }
 
 // The order that a setting of the paper's wiring carries, over the front of `order`.

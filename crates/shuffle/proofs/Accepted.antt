@@ -13,9 +13,9 @@ use Rattle.answers.specs.Buffers.{overlay}
 use Rattle.answers.proofs.Questions.{each-yes}
 use Rattle.answers.proofs.Outcomes.{accepted-when}
 use Rattle.permutation.specs.Permutations.{IsPermutation}
-use Rattle.shuffle_words.specs.Words.{fit, Chosen, chosen}
+use Rattle.shuffle_fair.specs.Words.{fit, Chosen, chosen}
 use Rattle.shuffle.specs.Shuffled.{shuffled, orderFrom, shuffleAsks, Acceptable, shuffleCall}
-use Rattle.shuffle_words.proofs.Words.{used-words, first-fit}
+use Rattle.shuffle_fair.proofs.Words.{used-words, first-fit}
 use Rattle.shuffle.proofs.Steps.{shuffled-permutation}
 use Rattle.shuffle.proofs.Outcomes.{asks-pass}
 

@@ -8,8 +8,8 @@ use native.Mathlib.Decide.{ℕ-discrete}
 use lib.Dec.{eqb}
 use borrow.Author.Tests.{eq-eqb, ne-eqb}
 use Rattle.permutation.proofs.Sweeps.{same-count}
-use Rattle.shuffle_words.specs.Words.{fit}
-use Rattle.shuffle_words.proofs.Fair.{fair}
+use Rattle.shuffle_fair.specs.Words.{fit}
+use Rattle.shuffle_fair.proofs.Fair.{fair}
 use Rattle.shuffle.specs.Shuffled.{partner, wordsExchanging}
 
 module _ (n i j : ℕ) (from : i ≤ j) (below : j < n) where

@@ -20,10 +20,10 @@ use Rattle.questions.specs.Asked.{placesFew, roomFor}
 use Rattle.questions.proofs.Lists.{first-no}
 use Rattle.questions.proofs.Asked.{few-yes, few-no, room-yes, room-no}
 use Rattle.shuffle.specs.declared.Drawn.{Drawn}
-use Rattle.shuffle_words.specs.declared.Choice.{Choice}
-use Rattle.shuffle_words.specs.declared.Choice.the-variants.{Enough, RunOut}
-use Rattle.shuffle_words.specs.Words.{chosen}
-use Rattle.shuffle_words.specs.Choosing.{supplyAsks, verdictOf, usedOf, Chose}
+use Rattle.shuffle_fair.specs.declared.Choice.{Choice}
+use Rattle.shuffle_fair.specs.declared.Choice.the-variants.{Enough, RunOut}
+use Rattle.shuffle_fair.specs.Words.{chosen}
+use Rattle.shuffle_fair.specs.Choosing.{supplyAsks, verdictOf, usedOf, Chose}
 use Rattle.shuffle.specs.Shuffled.{stepped, shuffled, shuffleAsks, drawn, shuffleCall}
 use Rattle.shuffle.proofs.Steps.{stepped-front, stepped-length}
 

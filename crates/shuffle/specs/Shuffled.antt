@@ -12,7 +12,7 @@ use Rattle.answers.specs.Outcomes.{answerOf, bufferOf, besideOf}
 use Rattle.permutation.specs.Permutations.{howMany, identity, exchanged}
 use Rattle.questions.specs.Asked.{placesFew, roomFor}
 use Rattle.shuffle.specs.declared.Drawn.{Drawn}
-use Rattle.shuffle_words.specs.Words.{fit, chosen, wordsLast}
+use Rattle.shuffle_fair.specs.Words.{fit, chosen, wordsLast}
 
 -- the place with which place i of n is exchanged under a word
 abbrev pub partner : ℕ → ℕ → ℕ → ℕ

@@ -6,8 +6,8 @@ ghost use lib.ListN.{length, drop};
 ghost use Rattle.answers.specs.Answers.{refusal};
 ghost use Rattle.permutation.specs.Permutations.{identity};
 ghost use Rattle.shuffle.specs.Shuffled.{partner, stepped, drawn, shuffleCall};
-use shuffle_words::Choice;
-use shuffle_words::wide;
+use shuffle_fair::Choice;
+use shuffle_fair::wide;
 
 // An answer, and beside it how many of the words were used: 0 in a refusal.
 pub struct Drawn {
@@ -73,7 +73,7 @@ pub fn shuffle(n: usize, words: &[u32], out: &mut [u16]) -> Drawn
         return refused(13);
     }
     let mut kept = [0u32; 1024];
-    let choice = shuffle_words::choose(n, words, &mut kept);
+    let choice = shuffle_fair::choose(n, words, &mut kept);
     let Choice::Enough(used) = choice else {
         return refused(18);
     };

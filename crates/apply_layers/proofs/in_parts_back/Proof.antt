@@ -14,8 +14,8 @@ use Rattle.apply_layers.proofs.in_parts_back.Statement.{statement}
 use Rattle.apply_layers.proofs.in_parts_back.Tie as tie
 use Rattle.apply_layers.proofs.in_parts_back.Reads as reads
 use Rattle.apply_layers.proofs.in_parts_back.Lts as lts
-use Rattle.apply_exchange.proofs.exchange_rest.Reads as exchange-rest-reads
-use Rattle.apply_exchange.proofs.exchange_whole.Reads as exchange-whole-reads
+use Rattle.exchange_blocks.proofs.exchange_rest.Reads as exchange-rest-reads
+use Rattle.exchange_blocks.proofs.exchange_whole.Reads as exchange-whole-reads
 use Rattle.entry_log.proofs.packed.Reads as packed-reads
 use Rattle.entry_log.proofs.write_packed.Reads as write-packed-reads
 

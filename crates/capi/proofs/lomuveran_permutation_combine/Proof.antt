@@ -1,7 +1,7 @@
 -- Assumes nothing.
 use mathlib.Core.Path.{ap, _∙_}
-use Rattle.permutation_record.specs.declared.Permutation.{Permutation}
-use Rattle.permutation_record.specs.Records.{combineCall}
+use Rattle.records.specs.declared.Permutation.{Permutation}
+use Rattle.records.specs.Records.{combineCall}
 use Rattle.capi_values.specs.Crossing.{recordIn}
 use Rattle.capi_values.proofs.Crossing.{reply-crosses}
 use borrow.Author.Needs.{needs}

@@ -1,7 +1,7 @@
 -- Assumes nothing.
 use mathlib.Core.Path.{_∙_}
 use Rattle.capi_values.specs.Crossing.{recordIn}
-use Rattle.permutation_record.specs.Records.{replied}
+use Rattle.records.specs.Records.{replied}
 use borrow.Author.Needs.{needs}
 use Rattle.capi.proofs.lomuveran_permutation_fixed_points.Statement.{statement}
 use Rattle.capi.proofs.lomuveran_permutation_fixed_points.Tie as tie

@@ -1,6 +1,6 @@
 -- Assumes nothing.
 use mathlib.Core.Path.{ap, _∙_}
-use Rattle.permutation_record.specs.Records.{inverseCall}
+use Rattle.records.specs.Records.{inverseCall}
 use Rattle.capi_values.proofs.Crossing.{reply-crosses}
 use borrow.Author.Needs.{needs}
 use Rattle.capi.proofs.lomuveran_permutation_inverse.Statement.{statement}

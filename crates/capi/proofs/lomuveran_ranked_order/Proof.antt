@@ -1,5 +1,5 @@
 -- Assumes nothing.
-use Rattle.ranks.specs.Calls.{ranked}
+use Rattle.listed_order.specs.Calls.{ranked}
 use Rattle.capi_values.proofs.Crossing.{answer-crosses}
 use borrow.Author.Needs.{needs}
 use Rattle.capi.proofs.lomuveran_ranked_order.Statement.{statement}

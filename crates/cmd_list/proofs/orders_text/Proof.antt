@@ -6,8 +6,8 @@ use native.Mathlib.Omega.{arith}
 use lib.ListN.{length}
 use Rattle.numbers.specs.Reading.{meaning, answerOf}
 use Rattle.numbers.proofs.Numbers.{reads, refused}
-use Rattle.cmd_lines.specs.Text.{refusalLine}
-use Rattle.cmd_lines.proofs.Lines.{refusal-fits}
+use Rattle.cmd_text.specs.Text.{refusalLine}
+use Rattle.cmd_text.proofs.Lines.{refusal-fits}
 use Rattle.cmd_list.proofs.Asking.{prints, no-number, too-long, surplus, all-orders}
 use borrow.Author.Needs.{needs}
 use Rattle.cmd_list.proofs.orders_text.Statement.{statement}

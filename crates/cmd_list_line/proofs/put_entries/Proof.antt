@@ -4,8 +4,8 @@ use native.Mathlib.Omega.{arith}
 use Prim.Native.Nat.{_-_}
 use lib.ListN.{length, getD, drop, length-append}
 use Rattle.answers.proofs.Putting.{put-none}
-use Rattle.cmd_lines.specs.Text.{decimal}
-use Rattle.cmd_lines.proofs.Lines.{room-first, put-both}
+use Rattle.cmd_text.specs.Text.{decimal}
+use Rattle.cmd_text.proofs.Lines.{room-first, put-both}
 use Rattle.cmd_list_line.specs.Line.{behindCommas}
 use Rattle.cmd_list_line.proofs.Putting.{entries-none, entries-some, Parting, parting-starts, comma-room, entry-room, parting-more, parting-ends}
 use borrow.Author.Needs.{needs}

@@ -1,7 +1,7 @@
 -- `cmd_list_line::put_line` meets its contract.
 -- Assumes nothing.
-use Rattle.cmd_lines.specs.Text.{bitsText, line}
-use Rattle.cmd_lines.proofs.Lines.{room-first}
+use Rattle.cmd_text.specs.Text.{bitsText, line}
+use Rattle.cmd_text.proofs.Lines.{room-first}
 use Rattle.cmd_list_line.specs.Line.{entriesText}
 use Rattle.cmd_list_line.proofs.Putting.{space-room, bits-room, newline-room, line-put}
 use borrow.Author.Needs.{needs}

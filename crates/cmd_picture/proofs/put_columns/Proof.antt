@@ -8,7 +8,7 @@ use lib.ListN.{length, getD}
 use borrow.Author.Needs.{needs}
 use Rattle.network.specs.Log.{entryAt}
 use Rattle.permutation.proofs.Tables.{length-tabulate, tabulate-at}
-use Rattle.cmd_lines.proofs.Lines.{Laying, lay-starts, lay-more, lay-ends}
+use Rattle.cmd_text.proofs.Lines.{Laying, lay-starts, lay-more, lay-ends}
 use Rattle.cmd_picture.specs.Picture.{mark}
 use Rattle.cmd_picture.specs.Inner.{markIn, columnsIn}
 use Rattle.cmd_picture.proofs.put_columns.Statement.{statement}

@@ -4,7 +4,7 @@ use mathlib.Core.Path.{ap}
 use native.Mathlib.Omega.{arith}
 use lib.ListN.{length, length-append}
 use Rattle.answers.proofs.Putting.{put-none, put-then}
-use Rattle.cmd_lines.specs.Text.{text}
+use Rattle.cmd_text.specs.Text.{text}
 use Rattle.cmd_picture_line.proofs.Grouping.{group-none, group-some}
 use borrow.Author.Needs.{needs}
 use Rattle.cmd_picture_line.proofs.put_group.Statement.{statement}

@@ -2,9 +2,9 @@
 -- Assumes nothing.
 use native.Mathlib.Omega.{arith}
 use mathlib.Core.List.{_++_}
-use Rattle.cmd_lines.specs.Text.{decimal, bitsText, line}
+use Rattle.cmd_text.specs.Text.{decimal, bitsText, line}
 use Rattle.cmd_settings.specs.Settings.{settingLines}
-use Rattle.cmd_lines.proofs.Lines.{room-first, room-second, room-third, put-three}
+use Rattle.cmd_text.proofs.Lines.{room-first, room-second, room-third, put-three}
 use borrow.Author.Needs.{needs}
 use Rattle.cmd_settings.proofs.put_lines.Statement.{statement}
 use Rattle.cmd_settings.proofs.put_lines.Tie as tie

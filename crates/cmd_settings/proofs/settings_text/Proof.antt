@@ -5,8 +5,8 @@ use mathlib.Core.Path.{sym}
 use lib.Seq.{length-take-le}
 use lib.ListN.{length-take, take}
 use Rattle.counts.proofs.Most.{entries-few}
-use Rattle.cmd_lines.proofs.Lines.{refusal-fits}
-use Rattle.cmd_order.proofs.Outcomes.{report-outcome}
+use Rattle.cmd_text.proofs.Lines.{refusal-fits}
+use Rattle.cmd_read_order.proofs.Outcomes.{report-outcome}
 use Rattle.cmd_settings.proofs.Printing.{lines-fit, prints, prints-refusal, places-few, bits-there, entries-are, prints-lines}
 use borrow.Author.Needs.{needs}
 use Rattle.cmd_settings.proofs.settings_text.Statement.{statement}

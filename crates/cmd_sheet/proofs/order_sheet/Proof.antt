@@ -3,7 +3,7 @@
 use mathlib.Core.Path.{sym}
 use mathlib.Core.List.{[]}
 use lib.Seq.{length-take-le}
-use Rattle.cmd_order.proofs.Outcomes.{report-outcome}
+use Rattle.cmd_read_order.proofs.Outcomes.{report-outcome}
 use Rattle.cmd_sheet.proofs.Sheets.{sheet-refused, places-few, bits-there, sheet-written}
 use borrow.Author.Needs.{needs}
 use Rattle.cmd_sheet.proofs.order_sheet.Statement.{statement}

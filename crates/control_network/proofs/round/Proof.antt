@@ -10,7 +10,7 @@ use Rattle.counts.specs.Counts.{up}
 use Rattle.network.specs.Log.{entry}
 use Rattle.steps.specs.Steps.{digit, step2, step3}
 use Rattle.steps.specs.Fold.{roundsOf}
-use Rattle.control_numbers.proofs.Numbers.{digit-small}
+use Rattle.select.proofs.Numbers.{digit-small}
 use Rattle.control_pairs.specs.Pairs.{marksIn, bitsIn, noneIn}
 use Rattle.control_pairs.proofs.Held.{none-held}
 use Rattle.wirings.specs.Nets.{wiringOf}

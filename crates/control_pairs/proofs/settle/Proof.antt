@@ -8,7 +8,7 @@ use lib.Dec.{eqb}
 use lib.ListN.{length, length-set}
 use Rattle.answers.specs.Questions.{firstBad, firstBadFrom}
 use Rattle.steps.specs.Sweeps.{store}
-use Rattle.control_numbers.proofs.Numbers.{byte-small}
+use Rattle.select.proofs.Numbers.{byte-small}
 use Rattle.control_rows.specs.Rows.{sixteens}
 use Rattle.control_pairs.specs.Pairs.{markIn, Numbered}
 use Rattle.control_pairs.proofs.Lowest.{lowOf, goodIn, low-step, least-within, low-marked, low-open, low-whole}

@@ -6,7 +6,7 @@ use mathlib.Core.Path.{ap, _∙_}
 use Prim.Native.Nat.{_-_, _≤_}
 use Rattle.counts.specs.Counts.{up}
 use Rattle.wirings.specs.Nets.{wiringOf}
-use Rattle.control_numbers.proofs.Numbers.{digit-small}
+use Rattle.select.proofs.Numbers.{digit-small}
 use Rattle.control_sides.proofs.Bounds.{pair-within}
 use Rattle.control_pairs.proofs.Held.{settled-numbered}
 use Rattle.control_walk.specs.declared.Walk.{Walk}

@@ -6,7 +6,7 @@ use mathlib.Core.Bool.{false, cond}
 use Prim.Native.Nat.{_*_, _<_}
 use lib.Dec.{ltb, eqb}
 use Rattle.wirings.specs.Nets.{wiringOf}
-use Rattle.control_numbers.proofs.Numbers.{digit-small}
+use Rattle.select.proofs.Numbers.{digit-small}
 use Rattle.control_sides.proofs.Bounds.{other-below}
 use Rattle.control_rings.proofs.Stepping.{again-is, turned-is}
 use Rattle.control_rings.proofs.turn.Statement.{statement}

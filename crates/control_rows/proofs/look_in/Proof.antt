@@ -7,7 +7,7 @@ use mathlib.Core.Bool.{not}
 use Prim.Native.Nat.{_-_, _*_, _≤_}
 use lib.Dec.{ltb, eqb}
 use Rattle.steps.specs.Steps.{digit}
-use Rattle.control_numbers.proofs.Numbers.{digit-small, byte-small}
+use Rattle.select.proofs.Numbers.{digit-small, byte-small}
 use Rattle.control_rows.proofs.Counting.{Looked, look-none, look-code, look-all}
 use Rattle.control_rows.proofs.look_in.Statement.{statement}
 use Rattle.control_rows.proofs.look_in.Tie as tie

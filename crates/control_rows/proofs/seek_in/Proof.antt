@@ -7,7 +7,7 @@ use mathlib.Core.Bool.{not}
 use Prim.Native.Nat.{_+_, _-_, _≤_}
 use lib.Dec.{ltb, eqb}
 use lib.ListN.{getD}
-use Rattle.control_numbers.proofs.Numbers.{digit-small, byte-small}
+use Rattle.select.proofs.Numbers.{digit-small, byte-small}
 use Rattle.control_rows.proofs.Counting.{under-test, test-below, Best, seek-none, seek-step, found-within, seek-all}
 use Rattle.control_rows.proofs.seek_in.Statement.{statement}
 use Rattle.control_rows.proofs.seek_in.Tie as tie

@@ -7,7 +7,7 @@ use lib.ListN.{length, getD, length-set}
 use Rattle.steps.specs.Steps.{digit}
 use Rattle.steps.specs.Sweeps.{each}
 use Rattle.wirings.specs.Nets.{wiringOf, netOf, placeOf}
-use Rattle.control_numbers.proofs.Numbers.{digit-small}
+use Rattle.select.proofs.Numbers.{digit-small}
 use Rattle.control_sweeps.proofs.Places.{each-step, still, ahead-below, here}
 use Rattle.control_sweeps.proofs.split_by.Statement.{statement}
 use Rattle.control_sweeps.proofs.split_by.Tie as tie

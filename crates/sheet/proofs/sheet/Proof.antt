@@ -9,9 +9,9 @@ use borrow.Author.Needs.{needs}
 use Rattle.answers.specs.declared.Answer.{Answer}
 use Rattle.answers.specs.Questions.{firstNo}
 use Rattle.answers.specs.Outcomes.{outcome}
-use Rattle.cmd_order.specs.Orders.{orderQuestions}
+use Rattle.cmd_read_order.specs.Orders.{orderQuestions}
 use Rattle.cmd_sheet.specs.Calls.{sheetFor, sheetCall}
-use Rattle.cmd_streams.proofs.Streams.{made-within}
+use Rattle.cmd_arguments.proofs.Streams.{made-within}
 use Rattle.sheet.proofs.sheet.Statement.{statement}
 use Rattle.sheet.proofs.sheet.Tie as tie
 

@@ -11,7 +11,7 @@ use Rattle.answers.specs.Questions.{firstNo}
 use Rattle.answers.specs.Outcomes.{outcome}
 use Rattle.sheets.specs.Calls.{placesIn, readQuestions, settingIn}
 use Rattle.cmd_show.specs.Show.{settingText, showCall}
-use Rattle.cmd_streams.proofs.Streams.{made-within}
+use Rattle.cmd_arguments.proofs.Streams.{made-within}
 use Rattle.show.proofs.show.Statement.{statement}
 use Rattle.show.proofs.show.Tie as tie
 
