@@ -11,7 +11,7 @@ use shuffle::Drawn;
 
 // An answer as C lays it out.
 #[repr(C)]
-#[derive(Drop)]
+#[derive(Clone, Copy)]
 pub struct CAnswer {
     pub number: usize,
     pub place: usize,
@@ -30,7 +30,7 @@ pub fn tell(a: answers::Answer) -> CAnswer
 
 // The answer of the number reader, with the two numbers that stand beside it.
 #[repr(C)]
-#[derive(Drop)]
+#[derive(Clone, Copy)]
 pub struct CNumber {
     pub answer: CAnswer,
     pub value: usize,
@@ -57,7 +57,7 @@ pub fn tell_number(r: ReadNumber) -> CNumber
 
 // The answer of a draw, with the number of words used.
 #[repr(C)]
-#[derive(Drop)]
+#[derive(Clone, Copy)]
 pub struct CDrawn {
     pub answer: CAnswer,
     pub used: usize,
@@ -75,7 +75,7 @@ pub fn tell_drawn(r: Drawn) -> CDrawn
 
 // The answer of a gauge's report, with its six numbers.
 #[repr(C)]
-#[derive(Drop)]
+#[derive(Clone, Copy)]
 pub struct CReport {
     pub answer: CAnswer,
     pub count: usize,
@@ -106,7 +106,7 @@ pub fn tell_report(r: GaugeReport) -> CReport
 
 // The answer of a call on a record, with the number that the record which it gives carries (how many entries stay home).
 #[repr(C)]
-#[derive(Drop)]
+#[derive(Clone, Copy)]
 pub struct CRecord {
     pub answer: CAnswer,
     pub fixed: usize,

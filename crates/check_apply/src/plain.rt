@@ -26,7 +26,7 @@ fn bit(bits: &[u8], i: usize) -> u8 {
 // ---- the list of switches
 
 // How many tasks wait, and how many switches are listed.
-#[derive(Drop)]
+#[derive(Clone, Copy)]
 pub struct Point {
     pub waiting: usize,
     pub count: usize,

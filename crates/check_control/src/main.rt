@@ -4,7 +4,7 @@ mod calls;
 mod nets;
 mod orders;
 mod refusals;
-mod setter;
+mod plain_setter;
 
 use answers::Answer;
 use tally::Tally;
@@ -89,7 +89,7 @@ fn set(
     let mut log = [wide(old); 65536];
     let mut right = [wide(old); 65536];
     let x = calls::set(order, n, bits, w, &mut log, room(entries, old));
-    setter::set(order, nets, &mut plain);
+    plain_setter::set(order, nets, &mut plain);
     nets::write_all(&mut right, nets);
     let t1 = same_bits(accepted(t, x, entries), bits, &plain);
     same_words(t1, &log, &right)
@@ -105,7 +105,7 @@ fn check_order(t: Tally, order: &[u16; 1024], n: usize, nets: &[usize; 12288], o
 // ---- orders and settings
 
 // What was compared; among settings, how many of them are canonical.
-#[derive(Drop)]
+#[derive(Clone, Copy)]
 struct Run {
     checks: Tally,
     canonical: Tally,

@@ -50,7 +50,7 @@ pub(crate) fn less(x: usize) -> usize {
 // ---- the tasks
 
 // How many tasks wait, and how many layers and switches are listed.
-#[derive(Drop)]
+#[derive(Clone, Copy)]
 struct Point {
     waiting: usize,
     layers: usize,

@@ -165,7 +165,7 @@ fn check_order(
 // ---- orders and settings
 
 // What was compared; of conversions; among settings, how many of them are canonical.
-#[derive(Drop)]
+#[derive(Clone, Copy)]
 struct Run {
     checks: Tally,
     conversions: Tally,

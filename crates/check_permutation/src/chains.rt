@@ -7,7 +7,7 @@ use records::{Permutation, Reply};
 use tally::Tally;
 
 // Where a chain stands: what was compared, the list, and the record that the last call gave.
-#[derive(Drop)]
+#[derive(Clone, Copy)]
 struct State {
     tally: Tally,
     list: [u16; 1024],

@@ -9,7 +9,7 @@ use tally::Tally;
 const WORDS: usize = 4294967296;
 
 // A draw under way: the list, how many places are left, how many words were used.
-#[derive(Drop)]
+#[derive(Clone, Copy)]
 struct Draw {
     list: [u16; 1024],
     left: usize,

@@ -1,7 +1,7 @@
 // The networks that the entries of a log name, in either wiring, and their pairs.
 
 // A network: the m places from o on, 2 to the power `level` apart. In the paper's wiring they lie side by side.
-#[derive(Drop)]
+#[derive(Clone, Copy)]
 pub struct Net {
     pub paper: bool,
     pub o: usize,

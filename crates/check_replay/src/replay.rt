@@ -5,7 +5,7 @@ use crate::nets::Net;
 
 // f, c, g, s of document 01, and the position of the bits that the next step writes or acts by. A plain walk counts it: a network's
 // input bits are passed in its step 4, its output bits in its step 6, and those of its halves between.
-#[derive(Drop)]
+#[derive(Clone, Copy)]
 pub struct Walk {
     pub f: usize,
     pub c: usize,

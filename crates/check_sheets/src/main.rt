@@ -1,6 +1,6 @@
 // Runs the number reader, the writer and the reader of sheets against a second, plainly written computation, on drawn bits and
 // on the settings of drawn orders, and prints how much was compared and how much of it was equal.
-mod canonical;
+mod canonical_trips;
 mod cases;
 mod part;
 mod plain;
@@ -235,5 +235,5 @@ fn main() {
     tally::print(b"numbers", pairs());
     tally::print(b"short sheets", shorts());
     tally::print(b"round trips", trips());
-    tally::print(b"round trips of canonical settings", canonical::trips());
+    tally::print(b"round trips of canonical settings", canonical_trips::trips());
 }

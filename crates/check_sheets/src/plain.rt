@@ -126,7 +126,7 @@ pub(crate) fn write(n: usize, bits: &[u8], out: &mut [u8]) -> Answer
 
 // ---- reading
 
-#[derive(Drop)]
+#[derive(Clone, Copy)]
 pub struct Found {
     pub number: usize,
     pub place: usize,

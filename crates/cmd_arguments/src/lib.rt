@@ -11,7 +11,7 @@ use answers::Answer;
 // ---- arguments
 
 // A text as a number.
-#[derive(Drop)]
+#[derive(Clone, Copy)]
 pub enum Argument {
     Number(usize),
     NoNumber,
@@ -66,7 +66,7 @@ pub fn are_arguments(all: usize, k: usize) -> bool
 // ---- what is read
 
 // So many bytes at the front of a buffer; or a failure, which was told.
-#[derive(Drop)]
+#[derive(Clone, Copy)]
 pub struct Got {
     pub failed: bool,
     pub count: usize,

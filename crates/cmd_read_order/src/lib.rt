@@ -19,7 +19,7 @@ pub fn input_buffer() -> [u8; ORDER_ROOM]
 }
 
 // An answer, and beside it the number of entries that the setter logged: 0 in a refusal.
-#[derive(Drop)]
+#[derive(Clone, Copy)]
 pub struct OrderSet {
     pub answer: Answer,
     pub entries: usize,

@@ -3,7 +3,7 @@ ghost use Rattle.std.specs.Prelude.{◌+◌, ◌≤◌, length};
 ghost use Rattle.answers.specs.Buffers.{Put};
 ghost use Rattle.cmd_usage.specs.Programs.{name_of, usage_of, subject_of};
 
-#[derive(Drop)]
+#[derive(Clone, Copy)]
 pub enum Program {
     Draw,
     Sheet,

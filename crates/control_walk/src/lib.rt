@@ -4,7 +4,7 @@ ghost use Rattle.std.specs.Prelude.{◌≡◌, ◌+◌, ◌<◌};
 
 // The hidden numbers of the walk along the rings, with 1 in `any` where a pair of the network is marked; how many entries are
 // written, and the position of the next bit.
-#[derive(Drop)]
+#[derive(Clone, Copy)]
 pub struct Walk {
     pub f: u16,
     pub c: u16,

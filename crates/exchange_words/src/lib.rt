@@ -67,7 +67,7 @@ fn put8(bytes: &mut [u8], at: usize, v: u64)
 
 // ---- exchanges
 
-#[derive(Drop)]
+#[derive(Clone, Copy)]
 struct Two {
     lower: u64,
     upper: u64,

@@ -5,7 +5,7 @@ ghost use Rattle.numbers.specs.Numbers.{number_bytes, number_at};
 ghost use Rattle.numbers.specs.Reading.{meaning, answer_of};
 
 // A number with the place after it, or a refusal: the question and the place of its no.
-#[derive(Drop)]
+#[derive(Clone, Copy)]
 pub enum ReadNumber {
     Number(usize, usize),
     Refused(usize, usize),

@@ -7,7 +7,7 @@ ghost use Rattle.record_entries.specs.Entries.{padded};
 ghost use Rattle.record_entries.specs.Fillings.{counted_of};
 
 // Entries that a loop filled, with how many of them stay home.
-#[derive(Drop)]
+#[derive(Clone, Copy)]
 pub struct Counted {
     pub entries: [u16; 1024],
     pub fixed: usize,

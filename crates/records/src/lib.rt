@@ -7,7 +7,7 @@ ghost use Rattle.records.specs.Records.{questions_of, WellFormed, record_of, lis
 
 // A permutation of 0 .. length - 1 by value; the entries past the length are 0, and `fixed` says how many entries stay home.
 // Any record can arrive: the fields are public, so each call but `fixed_points` asks questions 1 and 6 of what it is handed.
-#[derive(Drop)]
+#[derive(Clone, Copy)]
 pub struct Permutation {
     pub length: usize,
     pub entries: [u16; 1024],
@@ -15,7 +15,7 @@ pub struct Permutation {
 }
 
 // What a call gives: its answer, and a record.
-#[derive(Drop)]
+#[derive(Clone, Copy)]
 pub struct Reply {
     pub answer: answers::Answer,
     pub permutation: Permutation,

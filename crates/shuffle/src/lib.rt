@@ -7,7 +7,7 @@ ghost use Rattle.shuffle.specs.Shuffled.{partner, stepped, drawn, shuffle_call};
 use shuffle_fair::{Choice, wide};
 
 // An answer, and beside it how many of the words were used: 0 in a refusal.
-#[derive(Drop)]
+#[derive(Clone, Copy)]
 pub struct Drawn {
     pub answer: answers::Answer,
     pub used: usize,

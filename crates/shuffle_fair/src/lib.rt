@@ -5,7 +5,7 @@ ghost use Rattle.shuffle_fair.specs.Words.{limit, fit};
 ghost use Rattle.shuffle_fair.specs.Choosing.{Chose};
 
 // So many words were enough, or all of them were too few.
-#[derive(Drop)]
+#[derive(Clone, Copy)]
 pub enum Choice {
     Enough(usize),
     RunOut,

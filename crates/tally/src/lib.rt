@@ -5,7 +5,7 @@ ghost use Rattle.tally.specs.Tallies.{nothing, one, counted, block_bytes, random
 use answers::Answer;
 
 // How many outcomes were compared, and how many of them were equal.
-#[derive(Drop)]
+#[derive(Clone, Copy)]
 pub struct Tally {
     pub compared: u64,
     pub equal: u64,

@@ -5,14 +5,14 @@ ghost use Rattle.std.specs.Prelude.{◌≡◌, true, false, ◌≤◌, ◌<◌};
 ghost use Rattle.wirings.specs.Nets.{whole_of, step_of, gap_of, Inside, Spaced, IsHalf};
 
 // The wirings: the paper's (01), and the neighbour wiring (02, F-6).
-#[derive(Drop)]
+#[derive(Clone, Copy)]
 pub enum Topology {
     Paper,
     Neighbour,
 }
 
 // A network of `size` places that lie `apart` from each other, from the place `start` of the whole on.
-#[derive(Drop)]
+#[derive(Clone, Copy)]
 pub struct Net {
     pub topology: Topology,
     pub start: usize,
@@ -21,7 +21,7 @@ pub struct Net {
 }
 
 // How far it is from a pair of a network to the next, and from a pair's one place to its other.
-#[derive(Drop)]
+#[derive(Clone, Copy)]
 pub struct Spacing {
     pub step: usize,
     pub gap: usize,

@@ -1,8 +1,8 @@
 -- `check_control::setter::set` meets its contract.
 -- Assumes nothing.
 use Rattle.std.proofs.Common.{◌-◌, ◌≤◌, rules}
-use Rattle.check_control.proofs.setter.set.Statement.{statement}
-use Rattle.check_control.proofs.setter.set.Tie as tie
+use Rattle.check_control.proofs.plain_setter.set.Statement.{statement}
+use Rattle.check_control.proofs.plain_setter.set.Tie as tie
 
 abbrev invariant-loop : tie.invariant-loop
 invariant-loop order nets bits₀ table₀ j₀ bits table j = j ≤ 1023

@@ -1,8 +1,8 @@
 -- `check_control::setter::find_sides` meets its contract.
 -- Assumes nothing.
 use Rattle.std.proofs.Common.{◌-◌, ◌≤◌, rules}
-use Rattle.check_control.proofs.setter.find_sides.Statement.{statement}
-use Rattle.check_control.proofs.setter.find_sides.Tie as tie
+use Rattle.check_control.proofs.plain_setter.find_sides.Statement.{statement}
+use Rattle.check_control.proofs.plain_setter.find_sides.Tie as tie
 
 abbrev invariant-loop : tie.invariant-loop
 invariant-loop table o m home side₀ k i₀ side i = i ≤ k

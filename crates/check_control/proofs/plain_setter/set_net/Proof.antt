@@ -1,8 +1,8 @@
 -- `check_control::setter::set_net` meets its contract.
 -- Assumes nothing.
 use Rattle.std.proofs.Common.{◌-◌, ◌≤◌, rules}
-use Rattle.check_control.proofs.setter.set_net.Statement.{statement}
-use Rattle.check_control.proofs.setter.set_net.Tie as tie
+use Rattle.check_control.proofs.plain_setter.set_net.Statement.{statement}
+use Rattle.check_control.proofs.plain_setter.set_net.Tie as tie
 
 abbrev invariant-loop : tie.invariant-loop
 invariant-loop table₀ bits₀ nets j o m first last side k i₀ table bits i = i ≤ k

@@ -1,8 +1,8 @@
 -- `check_control::setter::ring` meets its contract.
 -- Assumes nothing.
 use Rattle.std.proofs.Common.{◌-◌, ◌≤◌, rules}
-use Rattle.check_control.proofs.setter.ring.Statement.{statement}
-use Rattle.check_control.proofs.setter.ring.Tie as tie
+use Rattle.check_control.proofs.plain_setter.ring.Statement.{statement}
+use Rattle.check_control.proofs.plain_setter.ring.Tie as tie
 
 abbrev invariant-loop : tie.invariant-loop
 invariant-loop side₀ table home o m c k p₀ turn₀ side p turn = turn ≤ k

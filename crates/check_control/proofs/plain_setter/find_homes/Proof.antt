@@ -1,8 +1,8 @@
 -- `check_control::setter::find_homes` meets its contract.
 -- Assumes nothing.
 use Rattle.std.proofs.Common.{◌-◌, ◌≤◌, rules}
-use Rattle.check_control.proofs.setter.find_homes.Statement.{statement}
-use Rattle.check_control.proofs.setter.find_homes.Tie as tie
+use Rattle.check_control.proofs.plain_setter.find_homes.Statement.{statement}
+use Rattle.check_control.proofs.plain_setter.find_homes.Tie as tie
 
 abbrev invariant-loop : tie.invariant-loop
 invariant-loop table o m home₀ p₀ home p = p ≤ m
