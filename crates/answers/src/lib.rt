@@ -1,4 +1,6 @@
 // The answer that every call gives: the number of the question that refused it, or 0; a place; a count.
+#![tactic(auto)]
+
 ghost use Rattle.std.specs.Prelude.{◌≡◌};
 ghost use Rattle.answers.specs.Answers.{refusal, accepted};
 

@@ -1,6 +1,8 @@
 // The calls `apply` (01: mix) and `apply_inverse` (01: return), and the same in each wiring: their questions, then the network's
 // switches on lent blocks, under control bits, with their log. The bits and the bytes of the blocks are secret. The wiring, n, the
 // width and the lengths are not: they alone decide every branch and index, but for the one decision of question 7.
+#![tactic(auto)]
+
 ghost use Rattle.std.specs.Prelude.{◌≡◌};
 ghost use Rattle.answers.specs.Outcomes.{logged};
 ghost use Rattle.wirings.specs.Nets.{wiring_of};

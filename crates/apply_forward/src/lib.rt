@@ -1,5 +1,7 @@
 // The network's switches on lent blocks, under control bits, with their log, by recursion on the halves: for mix. The bits and
 // the bytes of the blocks are secret: no branch and no index depends on them.
+#![tactic(auto)]
+
 ghost use Rattle.std.specs.Prelude.{◌≡◌, ◌+◌};
 ghost use Rattle.counts.specs.Counts.{W};
 ghost use Rattle.wirings.specs.Nets.{net_of, Inside};

@@ -1,6 +1,8 @@
 // A layer of switches on lent blocks, first to last and last to first, each switch with its log entry. The bits and the bytes of
 // the blocks are secret: no branch and no index depends on them. Public for the crate `apply_widths` only, whose callers have
 // asked their questions before: so a layer `requires` what they have settled.
+#![tactic(auto)]
+
 ghost use Rattle.std.specs.Prelude.{◌≡◌, reverse, ◌+◌, ◌%◌};
 ghost use Rattle.apply_layers.specs.Ran.{blocks_in, Lent, Pairs, Ran, back_from, layer_of};
 

@@ -1,5 +1,7 @@
 // A layer of one switch, as a network of two places has it, in a form that is made for the blocks' width and without a loop: half of
 // all networks are such. The bits and the bytes of the blocks are secret: no branch and no index depends on them.
+#![tactic(auto)]
+
 ghost use Rattle.std.specs.Prelude.{reverse};
 ghost use Rattle.apply_layers.specs.Ran.{blocks_in, Lent, Pairs, Ran, back_from, layer_of};
 

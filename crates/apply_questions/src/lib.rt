@@ -1,5 +1,7 @@
 // The questions of mix and return. The bits are secret: one decision is taken from them, that of question 7; every other branch
 // follows from n, the width and lengths. Public for the crate `apply`.
+#![tactic(auto)]
+
 ghost use Rattle.std.specs.Prelude.{◌≡◌};
 ghost use Rattle.answers.specs.Questions.{first_no};
 ghost use Rattle.answers.specs.Outcomes.{answer_of};

@@ -1,5 +1,7 @@
 // A layer of switches, in a form that is made for the blocks' width. The bits and the bytes of the blocks are secret: no branch and no
 // index depends on them.
+#![tactic(auto)]
+
 ghost use Rattle.std.specs.Prelude.{reverse};
 ghost use Rattle.apply_layers.specs.Ran.{blocks_in, Lent, Pairs, Ran, back_from, layer_of};
 

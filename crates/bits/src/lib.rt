@@ -1,5 +1,7 @@
 // Control bits as bytes, and question 7: is every bit byte 0 or 1?
 // The bits are secret: each function sweeps all of them and selects by arithmetic; the one branch is on 'all are bits'.
+#![tactic(auto)]
+
 ghost use Rattle.std.specs.Prelude.{◌≡◌, ◌<◌, ◌≤◌, ◌+◌, length, get_or, ltb};
 ghost use Rattle.answers.specs.Questions.{first_bad};
 ghost use Rattle.bits.specs.Bits.{is_bit, unequal};

@@ -1,6 +1,8 @@
 // The calls for programs in other languages: the C interface of include/lomuveran.h. A slice crosses as a pointer and a
 // length. Each export makes one call of the crate that does the work, and its promise is that crate's own definition of the
 // call.
+#![tactic(auto)]
+
 ghost use Rattle.std.specs.Prelude.{◌≡◌, length};
 ghost use Rattle.answers.specs.Outcomes.{outcome, logged};
 ghost use Rattle.apply.specs.Calls.{apply_call, inverse_call, apply_call_in, inverse_call_in};

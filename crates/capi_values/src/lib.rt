@@ -1,5 +1,7 @@
 // What crosses between the calls for C (crate capi) and the crates that do the work: answers, the answers of the number reader
 // and of a draw, a gauge's report, and a permutation as its entries and its number.
+#![tactic(auto)]
+
 ghost use Rattle.std.specs.Prelude.{◌≡◌, length, get_or};
 ghost use Rattle.numbers.specs.Reading.{meaning};
 ghost use Rattle.capi_values.specs.Crossing.{answer_in, number_in, drawn_in, report_in, told_in, told, lending, record_in, spread, lent};

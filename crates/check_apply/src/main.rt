@@ -1,5 +1,7 @@
 // Runs `apply` and `apply_inverse` against a second, plainly written mixer, and their logs from a drawn entry on against what that
 // mixer leaves. Prints how many answers and buffers were compared and how many of them were equal.
+#![tactic(auto)]
+
 mod plain;
 
 ghost use Rattle.std.specs.Prelude.{◌≤◌, length};

@@ -1,5 +1,7 @@
 // Runs `gauge_report` on drawn blocks against a second computation: at home, after mixing and after returning. Prints how many
 // reports were compared and how many of them were equal.
+#![tactic(auto)]
+
 mod plain;
 
 ghost use Rattle.std.specs.Prelude.{◌≤◌, length};

@@ -1,6 +1,8 @@
 // The whole job through the calls of the programs: an order from words, its sheet, blocks mixed and put back. The mixed blocks
 // are compared with a direct scatter by the order, and those put back with the blocks at the start. Then each refusal, and orders
 // drawn from chosen words.
+#![tactic(auto)]
+
 mod plain;
 
 use answers::Answer;

@@ -1,5 +1,7 @@
 // Runs set, and mix and return on what it leaves, against a second setter, a direct scatter of the blocks and a plainly written
 // log. Prints how much was compared and how much of it was equal.
+#![tactic(auto)]
+
 mod calls;
 mod nets;
 mod orders;

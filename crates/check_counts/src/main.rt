@@ -1,9 +1,11 @@
 // Compares the counts of 0 to 1,024 places: of switches the table, the recursion on halves and the closed formula; of entries
 // the recursion and the counts filled in upwards, without recursion. It counts those that are equal, so one difference changes
 // what is printed.
+#![tactic(auto)]
+
 ghost use Rattle.std.specs.Prelude.{◌≤◌};
 
-use libc::STDOUT_FILENO;
+const STDOUT: i32 = 1;
 
 // 1 where the three ways give one switch count, else 0.
 fn same_switches(n: usize) -> u64
@@ -42,13 +44,13 @@ fn same(a: u64, b: u64) -> u64
 }
 
 fn print(text: &[u8]) {
-    io::write_all(STDOUT_FILENO, text);
+    io::write_all(STDOUT, text);
 }
 
 // Ends a line with a number.
 fn value(text: &[u8], n: u64) {
     print(text);
-    io::print_decimal(STDOUT_FILENO, n);
+    io::print_decimal(STDOUT, n);
     print(b"\n");
 }
 
@@ -72,7 +74,7 @@ fn compare() {
 // A line: how many were compared, and how many were equal.
 fn compared(text: &[u8], n: usize, equal: u64) {
     print(text);
-    io::print_decimal(STDOUT_FILENO, n as u64);
+    io::print_decimal(STDOUT, n as u64);
     value(b" equal ", equal);
 }
 

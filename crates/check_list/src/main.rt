@@ -1,5 +1,7 @@
 // Runs `ranked_order` on every number of up to 6 places, against the step from an order to the next one and against set on that
 // order (check_replay runs the logs). Prints how much was compared and how much of it was equal.
+#![tactic(auto)]
+
 mod step;
 
 ghost use Rattle.std.specs.Prelude.{◌≤◌};

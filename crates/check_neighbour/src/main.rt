@@ -1,5 +1,7 @@
 // Runs set, mix and return in the neighbour wiring, and the converter, against a list of switches made with a stack of tasks, a setter
 // that colours pairs and a direct scatter of the blocks. Prints how much was compared and how much of it was equal.
+#![tactic(auto)]
+
 mod calls;
 mod colours;
 mod conversions;

@@ -1,5 +1,7 @@
 // Runs the permutation record and the shuffle against a second, plainly written computation, and prints how many
 // outcomes were compared and how many were equal.
+#![tactic(auto)]
+
 mod chains;
 mod draws;
 mod numbers;

@@ -1,6 +1,8 @@
 // Runs the logs that set writes in both wirings, and those of listed orders, entry by entry, on a table of its own, and compares the bits
 // that this leaves with the bits that the call left. Only the log says which network is next: it is found by its start and size. Each log
 // is run by its own words from its first entry on; and from a drawn entry on, where up to there the bits are counted in a plain walk.
+#![tactic(auto)]
+
 mod entries;
 mod nets;
 mod replay;

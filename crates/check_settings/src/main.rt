@@ -1,13 +1,15 @@
 // Runs `settings_text` on stored inputs: each refusal, small orders, and 1,024 places.
+#![tactic(auto)]
+
 ghost use Rattle.std.specs.Prelude.{◌≡◌, ◌+◌, ◌≤◌, ◌<◌, length};
 
-use libc::STDOUT_FILENO;
+const STDOUT: i32 = 1;
 
 // The text of an input.
 fn show(input: &[u8]) {
     let mut text = [0u8; 9252];
     let end = cmd_settings::settings_text(input, &mut text);
-    io::write_all(STDOUT_FILENO, &text[..end]);
+    io::write_all(STDOUT, &text[..end]);
 }
 
 // A number in one or two bytes at a place: the place after it.

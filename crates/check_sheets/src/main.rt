@@ -1,5 +1,7 @@
 // Runs the number reader, the writer and the reader of sheets against a second, plainly written computation, on drawn bits and
 // on the settings of drawn orders, and prints how much was compared and how much of it was equal.
+#![tactic(auto)]
+
 mod canonical_trips;
 mod cases;
 mod part;

@@ -1,5 +1,7 @@
 // The streams of a program: what an argument says, what a read gives, and which bytes go to which stream. Nothing here reads
 // or writes.
+#![tactic(auto)]
+
 ghost use Rattle.std.specs.Prelude.{◌≡◌, ◌+◌, ◌≤◌, min, eqb};
 ghost use Rattle.answers.specs.Buffers.{Put};
 ghost use Rattle.cmd_arguments.specs.Decimal.{most, decimal_in};

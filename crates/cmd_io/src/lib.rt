@@ -1,143 +1,193 @@
 // What the programs share: arguments, a file by name, and the streams. No contract can say what is read or written; what is
 // chosen from it can be (crates cmd_usage and cmd_arguments).
-ghost use Rattle.std.specs.Prelude.{◌≤◌, length};
+#![tactic(auto)]
+
+ghost use Rattle.std.specs.Prelude.{◌≤◌, length, IfOk};
 ghost use Rattle.io.specs.Counts.{IsPrefixLen};
 ghost use Rattle.cmd_arguments.specs.Decimal.{Spelled};
 
 use answers::Answer;
 use cmd_arguments::{Argument, Got};
 use cmd_usage::Program;
-use libc::{STDERR_FILENO, STDIN_FILENO, STDOUT_FILENO};
+use std::env::{Env, FillError};
+use std::fs::{Files, OpenOptions};
+use std::io::{Error, ErrorKind, Print, Read};
 
 // ---- arguments
 
 // Whether the program was started with other than k arguments, which it then tells.
-pub fn misused(program: Program, k: usize) -> bool {
-    if cmd_arguments::are_arguments(os::arg_count(), k) {
+pub fn misused(rt: &HostRuntime, program: Program, k: usize) -> bool {
+    if cmd_arguments::are_arguments(argument_count(rt), k) {
         return false;
     }
-    tell_usage(program);
+    tell_usage(rt, program);
     true
 }
 
+// How many arguments there are, the program's own name among them.
+fn argument_count(rt: &HostRuntime) -> usize {
+    let mut text = io::buffer();
+    for i in 0..usize::MAX {
+        if let Err(FillError::NotPresent) = rt.arg(i, &mut text) {
+            return i;
+        }
+    }
+    usize::MAX
+}
+
 // The number that argument k is, which must be the last one. Where there is none, that is told.
-pub fn last_number(program: Program, k: usize) -> Argument
+pub fn last_number(rt: &HostRuntime, program: Program, k: usize) -> Argument
     ensures { Spelled result }
 {
-    if misused(program, k) {
+    if misused(rt, program, k) {
         return Argument::NoNumber;
     }
-    let argument = number_argument(k);
+    let argument = number_argument(rt, k);
     if let Argument::NoNumber = argument {
-        tell_usage(program);
+        tell_usage(rt, program);
     }
     argument
 }
 
-fn number_argument(k: usize) -> Argument
+fn number_argument(rt: &HostRuntime, k: usize) -> Argument
     ensures { Spelled result }
 {
     let mut text = io::buffer();
-    let n = os::arg(k, &mut text);
-    cmd_arguments::decimal(&text[..n])
+    match rt.arg(k, &mut text) {
+        Ok(n) => cmd_arguments::decimal(&text[..n]),
+        Err(_) => cmd_arguments::decimal(b""),
+    }
 }
 
-fn tell_usage(program: Program) {
+fn tell_usage(rt: &HostRuntime, program: Program) {
     let mut line = [0u8; 53];
     let n = cmd_usage::usage_text(program, &mut line);
-    io::write_all(STDERR_FILENO, &line[..n]);
+    let _ = rt.stderr().write_all(&line[..n]);
 }
 
 // ---- what failed
 
-// Tells it, with the system's own words for the error of the call before.
-fn fail(program: Program, what: &[u8])
+// Tells it, with the system's own words for the error.
+fn fail(rt: &HostRuntime, program: Program, what: &[u8], error: Error)
     requires { length what.now ≤ 4096 }
 {
     let mut subject = [0u8; 4106];
     let n = cmd_usage::put_subject(program, what, &mut subject);
-    os::fail(&subject[..n]);
+    let _ = rt.stderr().write_all(&subject[..n]);
+    let _ = rt.stderr().print(": ");
+    let _ = rt.stderr().println(error);
 }
 
 // ---- what is read
 
-fn read_from(fd: i32, buf: &mut [u8]) -> Got
+// As much as buf holds, or until the input ends.
+fn read_full<R: Read>(reader: &mut R, buf: &mut [u8]) -> Result<usize, Error>
+    ensures { IfOk result (λ n. n ≤ length buf.new) }
+{
+    let mut done = 0;
+    while done < buf.len() {
+        let n = reader.read(&mut buf[done..])?;
+        if n == 0 {
+            break;
+        }
+        done += n;
+    }
+    Ok(done)
+}
+
+// As much as buf holds; a failure is told of the subject that `what` names.
+fn read_from<R: Read>(
+    rt: &HostRuntime,
+    program: Program,
+    what: &[u8],
+    reader: &mut R,
+    buf: &mut [u8],
+) -> Got
+    requires { length what.now ≤ 4096 }
     ensures { IsPrefixLen result.count buf.new }
 {
-    let n = io::read_full(fd, buf);
-    if n == buf.len() {
-        return Got {
-            failed: false,
-            count: n,
-        };
+    match read_full(reader, buf) {
+        Ok(n) => cmd_arguments::short_read(n, 0),
+        Err(error) => {
+            fail(rt, program, what, error);
+            cmd_arguments::short_read(0, -1)
+        }
     }
-    let mut more = [0u8; 1];
-    cmd_arguments::short_read(n, libc::read(fd, &mut more))
 }
 
 // As much of standard input as buf holds.
-pub fn read_input(program: Program, buf: &mut [u8]) -> Got
+pub fn read_input(rt: &HostRuntime, program: Program, buf: &mut [u8]) -> Got
     ensures { IsPrefixLen result.count buf.new }
 {
-    let got = read_from(STDIN_FILENO, buf);
-    if got.failed {
-        fail(program, b"standard input");
-    }
-    got
+    read_from(rt, program, b"standard input", &mut rt.stdin(), buf)
 }
 
 // The start of the file that argument k names, as much as buf holds.
-pub fn read_named(program: Program, k: usize, buf: &mut [u8]) -> Got
+pub fn read_named(rt: &HostRuntime, program: Program, k: usize, buf: &mut [u8]) -> Got
     ensures { IsPrefixLen result.count buf.new }
 {
     let mut path = io::buffer();
-    let p = os::arg(k, &mut path);
-    read_file(program, &path[..p], buf)
+    match rt.arg(k, &mut path) {
+        Ok(p) => read_file(rt, program, &path[..p], buf),
+        Err(FillError::TooLong) => unread(
+            rt,
+            program,
+            b"",
+            Error::from(ErrorKind::InvalidFilename),
+        ),
+        Err(FillError::NotPresent) => unread(
+            rt,
+            program,
+            b"",
+            Error::from(ErrorKind::InvalidInput),
+        ),
+    }
 }
 
-fn read_file(program: Program, path: &[u8], buf: &mut [u8]) -> Got
+fn unread(rt: &HostRuntime, program: Program, path: &[u8], error: Error) -> Got
+    requires { length path.now ≤ 4096 }
+    ensures { result.count ≤ 0 }
+{
+    fail(rt, program, path, error);
+    cmd_arguments::short_read(0, -1)
+}
+
+fn read_file(rt: &HostRuntime, program: Program, path: &[u8], buf: &mut [u8]) -> Got
     requires { length path.now ≤ 4096 }
     ensures { IsPrefixLen result.count buf.new }
 {
-    let fd = open(path);
-    if fd < 0 {
-        fail(program, path);
-        return cmd_arguments::short_read(0, -1);
+    match open(rt, path) {
+        Ok(mut file) => read_from(rt, program, path, &mut file, buf),
+        Err(error) => unread(rt, program, path, error),
     }
-    let got = read_from(fd, buf);
-    if got.failed {
-        fail(program, path);
-    }
-    libc::close(fd);
-    got
 }
 
-// -1, with its error, also where the argument was longer than a path.
-fn open(path: &[u8]) -> i32 {
-    if os::errno() == 0 {
-        return os::open_read(path);
+// A name that is no text cannot be opened.
+fn open(rt: &HostRuntime, path: &[u8]) -> Result<std::fs::File, Error> {
+    match str::from_utf8(path) {
+        Ok(text) => std::fs::open(rt, text),
+        Err(_) => Err(Error::from(ErrorKind::InvalidFilename)),
     }
-    -1
 }
 
 // ---- what is written
 
-fn write_error(answer: Answer) {
+fn write_error(rt: &HostRuntime, answer: Answer) {
     let mut line = [0u8; 53];
     let n = cmd_arguments::error_text(answer, &mut line);
-    io::write_all(STDERR_FILENO, &line[..n]);
+    let _ = rt.stderr().write_all(&line[..n]);
 }
 
 // All of it to standard output; where that does not take it, this is told.
-pub fn write_output(program: Program, made: &[u8]) {
-    if !io::write_all(STDOUT_FILENO, made) {
-        fail(program, b"standard output");
+pub fn write_output(rt: &HostRuntime, program: Program, made: &[u8]) {
+    if let Err(error) = rt.stdout().write_all(made) {
+        fail(rt, program, b"standard output", error);
     }
 }
 
 // What was made or the refusal, each to its stream.
-pub fn finish(program: Program, answer: Answer, made: &[u8]) {
+pub fn finish(rt: &HostRuntime, program: Program, answer: Answer, made: &[u8]) {
     let n = cmd_arguments::output_length(answer, made.len());
-    write_output(program, &made[..n]);
-    write_error(answer);
+    write_output(rt, program, &made[..n]);
+    write_error(rt, answer);
 }

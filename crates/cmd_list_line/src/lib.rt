@@ -1,5 +1,7 @@
 // A line of the program `list`, put into a buffer: `put_line` is public for the crate of the whole text, which knows how long a line
 // gets, and so `requires` room.
+#![tactic(auto)]
+
 ghost use Rattle.std.specs.Prelude.{◌+◌, ◌≤◌, length};
 ghost use Rattle.answers.specs.Buffers.{Put};
 ghost use Rattle.cmd_list_line.specs.Line.{entries_text, line_of};

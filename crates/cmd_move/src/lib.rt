@@ -1,4 +1,6 @@
 // Blocks moved under the setting of a sheet: what the programs `mix` and `unmix` do with what they read.
+#![tactic(auto)]
+
 ghost use Rattle.std.specs.Prelude.{◌≡◌, length, replicate};
 ghost use Rattle.answers.specs.Outcomes.{outcome};
 ghost use Rattle.cmd_move.specs.Calls.{blocks_room, mix_call, unmix_call};

@@ -1,4 +1,6 @@
 // One line of a picture, from its columns: a place's label, and the columns in their groups.
+#![tactic(auto)]
+
 ghost use Rattle.std.specs.Prelude.{◌≡◌, ◌++◌, ◌+◌, ◌≤◌, ◌<◌, length};
 ghost use Rattle.counts.specs.Counts.{W};
 ghost use Rattle.answers.specs.Buffers.{Put};

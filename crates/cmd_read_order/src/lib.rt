@@ -1,5 +1,7 @@
 // An order as the programs read it (01, 'The program "settings"'): a count and that many entries, as sheet numbers; and the
 // setting of it.
+#![tactic(auto)]
+
 ghost use Rattle.std.specs.Prelude.{◌≡◌, ◌≤◌, length, replicate};
 ghost use Rattle.answers.specs.Outcomes.{outcome};
 ghost use Rattle.rows.specs.Rows.{Row};

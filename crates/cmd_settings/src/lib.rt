@@ -1,4 +1,6 @@
 // The text that the program `settings` prints, as a function on slices.
+#![tactic(auto)]
+
 ghost use Rattle.std.specs.Prelude.{◌≡◌, ◌≤◌, length};
 ghost use Rattle.answers.specs.Buffers.{Put};
 ghost use Rattle.cmd_text.specs.Written.{written};

@@ -1,4 +1,6 @@
 // The sheet of an order: what the program `sheet` does with what it read.
+#![tactic(auto)]
+
 ghost use Rattle.std.specs.Prelude.{◌≡◌};
 ghost use Rattle.answers.specs.Outcomes.{outcome};
 ghost use Rattle.cmd_sheet.specs.Calls.{sheet_call};

@@ -1,4 +1,6 @@
 // What a sheet does, as text: what the program `show` does with what it read.
+#![tactic(auto)]
+
 ghost use Rattle.std.specs.Prelude.{◌≡◌, ◌++◌, ◌+◌, ◌*◌, ◌≤◌, length};
 ghost use Rattle.answers.specs.Outcomes.{outcome};
 ghost use Rattle.bits.specs.Bits.{Bits};

@@ -1,6 +1,8 @@
 // The lines that the programs print, put into a buffer. Each function puts bytes at a place of out, or at its front, and
 // answers the place after them; each `requires` room for them. They are public for the crates of the programs' texts, which
 // know how long a text gets.
+#![tactic(auto)]
+
 ghost use Rattle.std.specs.Prelude.{◌≡◌, ◌++◌, ◌+◌, ◌≤◌, nat_abs, length};
 ghost use Rattle.answers.specs.Buffers.{Put};
 ghost use Rattle.cmd_text.specs.Text.{text, decimal, signed, character, bits_text, line, refusal_line};

@@ -1,4 +1,6 @@
 // The names of the programs: how each is called, and what failed in one. Nothing here reads or writes.
+#![tactic(auto)]
+
 ghost use Rattle.std.specs.Prelude.{◌+◌, ◌≤◌, length};
 ghost use Rattle.answers.specs.Buffers.{Put};
 ghost use Rattle.cmd_usage.specs.Programs.{name_of, usage_of, subject_of};

@@ -1,6 +1,8 @@
 // The call set (01), and the same in each wiring (02, F-6): questions 1, 4, 5, 6; then the setter.
 // The wiring is public. Hidden: the order's entries and the bits. No branch and no index below depends on one of these, but for
 // question 6's answer.
+#![tactic(auto)]
+
 ghost use Rattle.std.specs.Prelude.{◌≡◌};
 ghost use Rattle.answers.specs.Outcomes.{logged};
 ghost use Rattle.wirings.specs.Nets.{wiring_of};

@@ -2,6 +2,8 @@
 // (4, 5) and out of them (6): each a sweep of the network's places, and its entry in the log. Hidden: the tables, f, c, g, s and
 // the bits. No branch and no index below depends on one of these. Public for the crate `control_network`; the call `set` has
 // asked its questions before: so a step may `require` sizes.
+#![tactic(auto)]
+
 ghost use Rattle.std.specs.Prelude.{◌≡◌, List, [], ◌∷◌, ℕ, ◌+◌, ◌*◌, ◌-◌, ◌≤◌, ◌<◌, length};
 ghost use Rattle.counts.specs.Counts.{up};
 ghost use Rattle.network.specs.Log.{entry, entry_words};

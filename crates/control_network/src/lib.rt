@@ -2,6 +2,8 @@
 // bits. No branch and no index below depends on one of these. `row` and `pairs` are lent for a network's rounds alone: what they hold
 // before and after does not matter. Public for the crate `setter`, whose callers have asked the questions of `set`: so
 // `set_network` may `require` sizes, and that its places hold an order.
+#![tactic(auto)]
+
 ghost use Rattle.std.specs.Prelude.{◌≡◌, List, [], ◌∷◌, ◌++◌, ℕ, ◌+◌, ◌*◌, ◌-◌, ◌≤◌, ◌<◌, length, replicate};
 ghost use Rattle.counts.specs.Counts.{up, W};
 ghost use Rattle.network.specs.Network.{network};

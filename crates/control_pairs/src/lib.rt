@@ -2,6 +2,8 @@
 // bit and finds the lowest unmarked pair. The table, p, and the bits are hidden: no branch and no index depends on one. Each sweep
 // takes whole sixteens of pairs: so the compiled loop has no remainder, which would take them one by one. Public for the crates of
 // the steps; the call `set` has asked its questions before: so a function may `require` sizes.
+#![tactic(auto)]
+
 ghost use Rattle.std.specs.Prelude.{◌≡◌, ℕ, ◌+◌, ◌≤◌, ◌<◌, length, get_or};
 ghost use Rattle.control_pairs.specs.Pairs.{Numbered, Unmarked, Settled, bits_in};
 

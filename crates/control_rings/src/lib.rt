@@ -3,6 +3,8 @@
 // branch and no index below depends on one of these. The rest of the state, which a step does not touch, is free in its promise, and
 // so is where the network's places lie. Public for the crate `control_network`; the call `set` has asked its questions before: so a
 // step may `require` sizes.
+#![tactic(auto)]
+
 ghost use Rattle.std.specs.Prelude.{◌≡◌, not, List, [], ◌∷◌, ℕ, ◌+◌, ◌-◌, ◌*◌, ◌≤◌, ◌<◌, length};
 ghost use Rattle.counts.specs.Counts.{up};
 ghost use Rattle.network.specs.Log.{entry, entry_words};

@@ -1,6 +1,8 @@
 // Looking and seeking in a row: the values of one network, gathered side by side. The numbers in the row, and p and a below, are
 // hidden: no branch and no index depends on one. Each function is public for the crates of the calls, which have asked their
 // questions before: so it may `require` sizes.
+#![tactic(auto)]
+
 ghost use Rattle.std.specs.Prelude.{◌≡◌, ℕ, ◌+◌, ◌*◌, ◌≤◌, ◌<◌, length};
 ghost use Rattle.steps.specs.Sweeps.{look, seek};
 ghost use Rattle.control_rows.specs.Rows.{Gathered, Padded};

@@ -1,5 +1,7 @@
 // What the setter's steps hand on from one to the next, and what a step did with it. Public for the crates of the steps; the
 // call `set` has asked its questions before: so `passed` may `require` sizes.
+#![tactic(auto)]
+
 ghost use Rattle.std.specs.Prelude.{◌≡◌, ◌+◌, ◌<◌};
 
 // The hidden numbers of the walk along the rings, with 1 in `any` where a pair of the network is marked; how many entries are

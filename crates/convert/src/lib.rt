@@ -1,6 +1,8 @@
 // The converter (02, F-6): a setting of either wiring becomes the other wiring's canonical setting of the same order. It keeps no log.
 // The bits are secret: one decision is taken from them, that of question 7; every other branch and index follows from the wiring, n
 // and the lengths.
+#![tactic(auto)]
+
 ghost use Rattle.std.specs.Prelude.{◌≡◌};
 ghost use Rattle.answers.specs.Outcomes.{outcome};
 ghost use Rattle.convert.specs.Calls.{across, convert_call};

@@ -1,5 +1,7 @@
 // The switch count W and the setter's entry count E of a network of n places: both by recursion on halves, W also from a
 // table and by its closed formula. Each answer is equated with the recursive rule.
+#![tactic(auto)]
+
 ghost use Rattle.std.specs.Prelude.{◌≡◌, ◌≤◌};
 ghost use Rattle.counts.specs.Counts.{W, E, L};
 ghost use Rattle.counts.specs.Table.{StandsAt};

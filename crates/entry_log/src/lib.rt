@@ -1,5 +1,7 @@
 // The entries of a log as words. Nothing here is hidden: every entry follows from sizes alone. Public for the crates of the
 // calls and the programs, which know the log's length: so a function may `require` room.
+#![tactic(auto)]
+
 ghost use Rattle.std.specs.Prelude.{◌≡◌, [], ◌∷◌, ◌+◌, ◌*◌, ◌≤◌, ◌<◌, length};
 ghost use Rattle.answers.specs.Buffers.{overlay};
 ghost use Rattle.network.specs.Log.{entry, entry_words, words, entry_at};

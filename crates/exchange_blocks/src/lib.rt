@@ -1,6 +1,8 @@
 // The exchange of two lent blocks under one bit, in parts: of 32 bytes each, then of 8, 4, 2 and 1. The bit and the bytes are
 // secret: every byte of both blocks is read and written, whatever the bit; no branch and no index depends on them. Public for the
 // crate `apply_layers` only, whose callers have asked their questions before: so an exchange `requires` what they have settled.
+#![tactic(auto)]
+
 ghost use Rattle.std.specs.Prelude.{◌≡◌, ℕ, ◌+◌, ◌*◌, ◌/◌, ◌%◌, ◌<◌, ◌≤◌, length, slice_index};
 ghost use Rattle.exchange_words.specs.Bytes.{bytes_switched};
 ghost use Rattle.exchange_words.specs.Words.{from, written};

@@ -1,6 +1,8 @@
 // The exchange of 1, 2, 4 or 8 bytes of two lent blocks under one bit, as one number each. The bit and the bytes are secret: every
 // byte is read and written, whatever the bit; no branch and no index depends on them. Public for the crate `exchange_blocks` only,
 // whose callers have asked their questions before: so an exchange `requires` what they have settled.
+#![tactic(auto)]
+
 ghost use Rattle.std.specs.Prelude.{◌≡◌, ◌+◌, ◌<◌, ◌≤◌, length};
 ghost use Rattle.exchange_words.specs.Bytes.{bytes_switched};
 ghost use Rattle.exchange_words.specs.Words.{number, byte_of, from, written, pick};

@@ -1,21 +1,23 @@
 // The program `list`: a length on standard input, a line for each order of so many places on standard output (02, F-3).
+#![tactic(auto)]
+
 use cmd_usage::Program;
 
-fn list(input: &[u8]) {
+fn list(rt: &HostRuntime, input: &[u8]) {
     let mut text = [0u8; 17280];
     let end = cmd_list::orders_text(input, &mut text);
-    cmd_io::write_output(Program::List, &text[..end]);
+    cmd_io::write_output(rt, Program::List, &text[..end]);
 }
 
-fn main() {
-    if cmd_io::misused(Program::List, 0) {
+fn main(rt: HostRuntime) {
+    if cmd_io::misused(&rt, Program::List, 0) {
         return;
     }
     let mut input = cmd_list::input_buffer();
-    let got = cmd_io::read_input(Program::List, &mut input);
+    let got = cmd_io::read_input(&rt, Program::List, &mut input);
     if got.failed {
         return;
     }
     let n = got.count;
-    list(&input[..n]);
+    list(&rt, &input[..n]);
 }

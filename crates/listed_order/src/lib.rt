@@ -1,6 +1,8 @@
 // The r-th order of n places in dictionary order, with its setting and set's log (02, F-3): questions 17, 14, 13, 4, 5; then the
 // order, and the setter.
 // Hidden: r, the order's entries and the bits. No branch and no index below depends on one of these, but for question 14's answer.
+#![tactic(auto)]
+
 ghost use Rattle.std.specs.Prelude.{◌≡◌, ◌*◌, ◌≤◌, ◌<◌, length};
 ghost use Rattle.counts.specs.Counts.{W, E};
 ghost use Rattle.network.specs.Log.{entry_words};

@@ -1,4 +1,6 @@
 // The number reader: a number in one or two bytes, at a place of an input; and the writer of one number.
+#![tactic(auto)]
+
 ghost use Rattle.std.specs.Prelude.{◌≡◌, ◌+◌, ◌≤◌, ◌<◌, length};
 ghost use Rattle.answers.specs.Buffers.{Put};
 ghost use Rattle.numbers.specs.Numbers.{number_bytes, number_at};

@@ -1,6 +1,8 @@
 // The r-th order of at most 6 places, in dictionary order (02, F-3). The public functions serve the crates of the call and of the
 // program, which have asked their questions before: so they may `require` sizes.
 // Hidden: r, its digits and the order's entries. No branch and no index below depends on one of these.
+#![tactic(auto)]
+
 ghost use Rattle.std.specs.Prelude.{◌≡◌, map, ◌*◌, ◌/◌, ◌≤◌, ◌<◌, length};
 ghost use Rattle.counts.specs.Table.{StandsAt};
 ghost use Rattle.control_sweeps.specs.Tables.{Below};

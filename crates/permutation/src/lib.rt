@@ -1,4 +1,6 @@
 // Question 6 of a list of entries, with the laws of permutations.
+#![tactic(auto)]
+
 ghost use Rattle.std.specs.Prelude.{◌≡◌, ◌&&◌, ◌+◌, ◌≤◌, ◌<◌, eqb, length};
 ghost use Rattle.permutation.specs.Permutations.{bit, matches, first_bad_entry};
 

@@ -1,6 +1,8 @@
 // The 1,024 entries of a permutation record, those past its length 0: the lists that they come to hold, and how many of them
 // stay home. The calls on records keep no log, and 01 asks only of calls that do that no index depends on an entry: `combine`
 // and `invert` index by one. What is required here, the questions of the record's calls ensure (crate records).
+#![tactic(auto)]
+
 ghost use Rattle.std.specs.Prelude.{◌≡◌, ◌+◌, ◌≤◌, ◌<◌, eqb, length, take};
 ghost use Rattle.permutation.specs.Permutations.{IsPermutation, bit, identity, exchanged, combined, inverted};
 ghost use Rattle.record_entries.specs.Entries.{padded};

@@ -1,5 +1,7 @@
 // Questions 1 and 6 of what a permutation record holds (01: open order; 02, F-2: 6 of its number of entries that stay home).
 // What is required here, the record's own shape and question 1 ensure (crate records).
+#![tactic(auto)]
+
 ghost use Rattle.std.specs.Prelude.{◌≡◌, ◌≤◌, ◌<◌, eqb, length};
 ghost use Rattle.answers.specs.Questions.{first_bad, first_no};
 ghost use Rattle.answers.specs.Outcomes.{answer_of};

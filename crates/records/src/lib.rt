@@ -1,4 +1,6 @@
 // The permutation record and its calls (01: open order; 02, F-2: it carries how many entries stay home).
+#![tactic(auto)]
+
 ghost use Rattle.std.specs.Prelude.{◌≡◌, ◌≤◌, ◌<◌, length};
 ghost use Rattle.answers.specs.Questions.{first_no};
 ghost use Rattle.answers.specs.Outcomes.{answer_of};

@@ -1,5 +1,7 @@
 // Rows of numbers, each where the one before ends, read and written. A sheet and an order are such rows. Public for the crates
 // that read and write these, and so with a `requires`.
+#![tactic(auto)]
+
 ghost use Rattle.std.specs.Prelude.{◌≡◌, ◌≤◌, ◌+◌, ◌-◌, ◌*◌, length};
 ghost use Rattle.answers.specs.Buffers.{Put};
 ghost use Rattle.numbers.specs.Numbers.{sevens};

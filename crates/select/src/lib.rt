@@ -1,6 +1,8 @@
 // Small oblivious functions on numbers. All numbers below are hidden: no branch depends on one. They are 16 bits wide, so that a
 // sweep takes several places at a time. Every function is public for the crates of the calls, which have asked their questions
 // before: so it may `require` sizes.
+#![tactic(auto)]
+
 ghost use Rattle.std.specs.Prelude.{◌≡◌, not, cond, ◌*◌, ◌<◌, eqb, ltb};
 ghost use Rattle.steps.specs.Steps.{digit};
 

@@ -1,6 +1,8 @@
 // The setter after its questions: a whole network on hidden tables of its own.
 // The wiring is public. Hidden: the order's entries, the tables, f, c, g, s, any and the bits. No branch and no index below depends on
 // one of these.
+#![tactic(auto)]
+
 ghost use Rattle.std.specs.Prelude.{◌≡◌, ◌*◌, ◌≤◌, length, replicate};
 ghost use Rattle.counts.specs.Counts.{W, E};
 ghost use Rattle.network.specs.Log.{entry_words};

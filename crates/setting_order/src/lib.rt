@@ -1,5 +1,7 @@
 // The setting of an order and the order of a setting, in each wiring, for the crates that keep no log. Each function `requires` that
 // the questions of the call behind it get a yes.
+#![tactic(auto)]
+
 ghost use Rattle.std.specs.Prelude.{◌≡◌, ◌+◌, ◌*◌, ◌≤◌, length};
 ghost use Rattle.answers.specs.Buffers.{overlay};
 ghost use Rattle.bits.specs.Bits.{Bits};

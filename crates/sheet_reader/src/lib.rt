@@ -1,4 +1,6 @@
 // The reader of sheets. How many bytes a sheet has depends on its bits (01), and with it branches of the functions here.
+#![tactic(auto)]
+
 ghost use Rattle.std.specs.Prelude.{◌≡◌, ◌≤◌, length, take, drop};
 ghost use Rattle.answers.specs.Questions.{first_no};
 ghost use Rattle.answers.specs.Buffers.{overlay};

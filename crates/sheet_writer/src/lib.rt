@@ -1,5 +1,7 @@
 // The writer of sheets. A sheet's length depends on its bits (01), and with it branches of the functions that write its
 // numbers. In `write_sheet` nothing depends on the bits before question 7 is decided.
+#![tactic(auto)]
+
 ghost use Rattle.std.specs.Prelude.{◌≡◌, ◌≤◌, ◌+◌, ◌*◌, min, length, take, drop};
 ghost use Rattle.answers.specs.Buffers.{overlay, Put};
 ghost use Rattle.answers.specs.Outcomes.{outcome};

@@ -1,4 +1,6 @@
 // Sheets: a setting written in numbers of one or two bytes, and the calls that write and read it. Definitions and laws.
+#![tactic(auto)]
+
 ghost use Rattle.std.specs.Prelude.{◌≡◌, length, replicate};
 ghost use Rattle.sheets.specs.Sheet.{sheet_room};
 

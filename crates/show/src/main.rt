@@ -1,23 +1,25 @@
 // `show SHEET`: the places, the setting and the order of the sheet in the file SHEET, and a picture of a small network.
 // A byte more than the longest sheet, of 1,320, is read, so that a surplus shows.
+#![tactic(auto)]
+
 use cmd_usage::Program;
 
-fn show(sheet: &[u8]) {
+fn show(rt: &HostRuntime, sheet: &[u8]) {
     let mut text = [0u8; 16384];
     let answer = cmd_show::show_sheet(sheet, &mut text);
     let n = answer.count;
-    cmd_io::finish(Program::Show, answer, &text[..n]);
+    cmd_io::finish(rt, Program::Show, answer, &text[..n]);
 }
 
-fn main() {
-    if cmd_io::misused(Program::Show, 1) {
+fn main(rt: HostRuntime) {
+    if cmd_io::misused(&rt, Program::Show, 1) {
         return;
     }
     let mut sheet = sheets::input_buffer();
-    let got = cmd_io::read_named(Program::Show, 1, &mut sheet);
+    let got = cmd_io::read_named(&rt, Program::Show, 1, &mut sheet);
     if got.failed {
         return;
     }
     let n = got.count;
-    show(&sheet[..n]);
+    show(&rt, &sheet[..n]);
 }

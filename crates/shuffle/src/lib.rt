@@ -1,4 +1,6 @@
 // A permutation shuffled by words (01: draw; 02, F-5: fair drawing).
+#![tactic(auto)]
+
 ghost use Rattle.std.specs.Prelude.{◌≡◌, ◌++◌, ◌≤◌, ◌<◌, length, drop};
 ghost use Rattle.answers.specs.Answers.{refusal};
 ghost use Rattle.permutation.specs.Permutations.{identity};

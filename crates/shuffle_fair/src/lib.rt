@@ -1,4 +1,6 @@
 // Which of the words are taken for the places of an order (02, F-5: fair drawing).
+#![tactic(auto)]
+
 ghost use Rattle.std.specs.Prelude.{◌≡◌, ◌≤◌, ◌<◌, length};
 ghost use Rattle.permutation.specs.Permutations.{bit};
 ghost use Rattle.shuffle_fair.specs.Words.{limit, fit};

@@ -1,4 +1,6 @@
 // What the check programs compare and count with; no part of the mixer.
+#![tactic(auto)]
+
 ghost use Rattle.std.specs.Prelude.{◌≡◌, ◌+◌, ◌%◌, ◌^◌, ◌≤◌, true, slice_index};
 ghost use Rattle.tally.specs.Tallies.{nothing, one, counted, block_bytes, random, scrambled, after, Holds};
 

@@ -1,6 +1,8 @@
 // Which wiring a network has and where its places lie in the whole: a public value, so that code and its proof are written once for
 // all wirings (the language has no generics). Nothing here is hidden. Public for the crates of the calls, which have asked their
 // questions before: so a function may `require` sizes.
+#![tactic(auto)]
+
 ghost use Rattle.std.specs.Prelude.{◌≡◌, true, false, ◌≤◌, ◌<◌};
 ghost use Rattle.wirings.specs.Nets.{whole_of, step_of, gap_of, Inside, Spaced, IsHalf};
 
