@@ -1,0 +1,21 @@
+-- The loop over a layer's switches, last to first. Its invariant: whoever runs what is left has run the whole layer.
+-- Assumes nothing.
+use native.Mathlib.Omega.{arith}
+use mathlib.Core.Path.{◌≡◌, refl, ◌∙◌}
+use Prim.Native.Nat.{suc, ◌+◌, ◌*◌, ◌-◌, ◌≤◌, ◌<◌}
+use lib.ListN.{length, get_or}
+use Rattle.bits.specs.Bits.{Bits}
+use Rattle.network.specs.Log.{entry_words}
+use Rattle.entry_log.proofs.Written.{packed-written}
+use Rattle.apply_layers.proofs.Blocks.{Within, within, past_near, few_fit, both_parts}
+use Rattle.apply_layers.proofs.Packing.{at_switch, switch-above, switch-before}
+use Rattle.apply_layers.proofs.Runs.{Leads, leads_more, leads_none}
+use Rattle.apply_layers.proofs.in_parts_back.Given as goal
+
+abbrev pub invariant-loop-i : goal.invariant-loop-i
+invariant-loop-i l =
+    ((l.i ≤ l.c) × ((l.to + l.i ≡ l.e + l.c) × ((length l.blocks ≡ length l.initial.blocks) × (length l.log ≡ length l.initial.log)))) × (l.x ≡ at_switch l.step l.gap l.o l.first l.i)
+    × Leads l.width l.step l.gap l.o l.bits l.first l.e l.initial.blocks l.initial.log l.c l.i l.to l.blocks l.log
+
+abbrev pub decreases-loop-i : goal.decreases-loop-i
+decreases-loop-i l = l.i

@@ -1,0 +1,7 @@
+-- Assumes nothing.
+use Rattle.capi_values.proofs.Crossing.{log_crosses}
+use borrow.Author.Rules.{rules}
+use Rattle.capi.proofs.lomuveran_apply.Goals as goal
+
+pub returns : goal.returns
+returns c = log_crosses c.tell.ensures c.apply.ensures

@@ -1,0 +1,16 @@
+-- Assumes nothing.
+use mathlib.Core.Path.{ap, ◌∙◌}
+use Rattle.records.specs.declared.Permutation.{Permutation}
+use Rattle.records.specs.Records.{combine_call}
+use Rattle.capi_values.specs.Crossing.{record_in}
+use Rattle.capi_values.proofs.Crossing.{reply-crosses}
+use borrow.Author.Rules.{rules}
+use Rattle.capi.proofs.lomuveran_permutation_combine.Goals as goal
+
+pub returns : goal.returns
+returns c = let b10 = b6.before.before.before.before in
+    let a = b10.args in
+    reply-crosses a.first.now c.give.ensures
+    (c.combine.ensures
+    ∙ ap (combine_call c.record_of-p.result) c.record_of.ensures
+    ∙ ap (λ (p : Permutation). combine_call p (record_in a.second.now a.second-fixed)) c.record_of-p.ensures)

@@ -1,0 +1,11 @@
+-- Assumes nothing.
+use Rattle.capi_values.proofs.Crossing.{number_refused, number-given}
+use mathlib.Core.Path.{◌∙◌}
+use borrow.Author.Rules.{rules}
+use Rattle.capi_values.proofs.tell_number.Goals as goal
+
+pub returns-in_default : goal.returns-in_default
+returns-in_default c = number_refused (c.tell-answer.ensures ∙ c.answer.ensures) c.enum_told-1.given.1
+
+pub returns : goal.returns
+returns c = number-given (c.tell-answer.ensures ∙ c.answer.ensures) c.r-1.given.1

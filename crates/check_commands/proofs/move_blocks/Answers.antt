@@ -1,0 +1,7 @@
+-- `check_commands::move_blocks` meets its contract.
+-- Assumes nothing.
+use borrow.Author.Rules.{rules}
+use Rattle.check_commands.proofs.move_blocks.Goals as goal
+
+pub shape_of-scattered : goal.shape_of-scattered
+shape_of-scattered c = b19.scatter.auto.1.1.1.0

@@ -1,0 +1,10 @@
+-- `check_replay::replay::step6` meets its contract.
+-- Assumes nothing.
+use Rattle.std.proofs.Common.{◌-◌, ◌≤◌, rules}
+use Rattle.check_replay.proofs.replay.step6.Given as goal
+
+abbrev pub invariant-loop-p : goal.invariant-loop-p
+invariant-loop-p l = l.p ≤ l.m
+
+abbrev pub decreases-loop-p : goal.decreases-loop-p
+decreases-loop-p l = l.m - l.p

@@ -1,0 +1,16 @@
+-- `cmd_draw::gather` meets its contract.
+-- Assumes nothing.
+use Prim.Native.Nat.{◌-◌}
+use native.Mathlib.Omega.{arith}
+use borrow.Author.Rules.{rules}
+use Rattle.permutation.specs.Permutations.{tabulate}
+use Rattle.permutation.proofs.Tables.{length-tabulate, tabulate-at}
+use Rattle.answers.proofs.Putting.{Over, over_starts, each_more, each-ends}
+use Rattle.cmd_draw.specs.Draw.{word_at}
+use Rattle.cmd_draw.proofs.gather.Given as goal
+
+abbrev pub invariant-loop-i : goal.invariant-loop-i
+invariant-loop-i l = Over (tabulate (word_at l.bytes) l.n) l.initial.words l.words l.n l.i
+
+abbrev pub decreases-loop-i : goal.decreases-loop-i
+decreases-loop-i l = l.n - l.i

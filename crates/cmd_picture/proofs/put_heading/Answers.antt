@@ -1,0 +1,30 @@
+-- `cmd_picture::put_heading` meets its contract.
+-- Assumes nothing.
+use mathlib.Core.Path.{sym, ap, ◌∙◌}
+use native.Mathlib.Omega.{arith}
+use lib.ListN.{length}
+use lib.Seq.{length-take-le}
+use Rattle.answers.proofs.Putting.{put_front, put_within, put_then}
+use Rattle.cmd_picture.proofs.Switches.{bits_few, bits_each}
+use borrow.Author.Rules.{rules}
+use Rattle.cmd_picture.proofs.put_heading.Goals as goal
+
+pub put_bits-w-requires : goal.put_bits-w-requires
+put_bits-w-requires c = omega (arith, bits_few c.args.n c.args.bits.now c.requires.1 c.requires.2)
+
+-- LEFT slice-aggregate-put-text : tie.Need-slice-aggregate-put-text
+-- LEFT slice-aggregate-put-text c = search rules
+-- LEFT 
+
+pub slice_bounds-columns-end : goal.slice_bounds-columns-end
+slice_bounds-columns-end c = put_within c.put_bits-w.ensures
+
+pub slice_bounds-put_line-end : goal.slice_bounds-put_line-end
+slice_bounds-put_line-end c = sym (length-take-le _ _ (put_within c.put_bits-w.ensures))
+
+pub put_line-requires : goal.put_line-requires
+put_line-requires c =
+    let e = put_front c.put_bits-w.ensures in (c.requires.0, c.requires.1, ap length e ∙ bits_each c.args.n c.args.bits.now c.requires.0 c.requires.2, rw e (omega (arith, c.requires.3, c.put_text-a.ensures.place, c.put_text-a.auto)))
+
+pub returns : goal.returns
+returns c = put_then (omega (arith, c.requires.3)) c.put_text-a.ensures (rw (put_front c.put_bits-w.ensures) at c.put_line.ensures)

@@ -1,0 +1,24 @@
+-- `cmd_picture::put_rows` meets its contract.
+-- Assumes nothing.
+use Prim.Native.Nat.{◌-◌}
+use native.Mathlib.Omega.{arith}
+use Rattle.cmd_picture.proofs.Marks.{Rowing, rowing_starts, row_room, rowing_more, rowing_ends}
+use borrow.Author.Rules.{rules}
+use Rattle.cmd_picture.proofs.put_rows.Goals as goal
+
+pub loop-place-init : goal.loop-place-init
+loop-place-init c = rowing_starts _ _ _ _ _ _
+
+pub put_row-end-requires : goal.put_row-end-requires
+put_row-end-requires c =
+    (c.requires.0, c.requires.1, omega (arith, c.requires.1, c.loop-place-test.true), c.requires.2, c.requires.3, row_room _ _ _ _ _ _ c.requires.4 c.loop-place.invariant c.loop-place-test.true)
+
+pub loop-place-preserved : goal.loop-place-preserved
+loop-place-preserved c =
+    rowing_more _ _ _ _ _ _ c.requires.4 c.loop-place.invariant c.loop-place-test.true (search rules) c.put_row-end.ensures
+
+pub shape_of-out : goal.shape_of-out
+shape_of-out c = c.loop-place.invariant.same
+
+pub returns : goal.returns
+returns c = rowing_ends _ _ _ _ _ _ c.requires.4 c.loop-place.invariant c.loop-place-test.false

@@ -1,0 +1,35 @@
+-- `cmd_text::put_decimal` meets its contract.
+-- Assumes nothing.
+use borrow.Author.Rules.{rules}
+use native.Mathlib.Omega.{arith}
+use Rattle.cmd_text.proofs.Lines.{put_digit, put_last}
+use Rattle.cmd_text.proofs.Decimal.{decimal-one, longer}
+use mathlib.Core.Path.{ap}
+use lib.ListN.{length}
+use Prim.Native.Nat.{ℕ, ◌<◌}
+use borrow.Fn.Kinds.{In}
+use borrow.Fn.PlainCycle.{Measures, is, falls, and}
+use Rattle.cmd_text.proofs.put_decimal.Kinds as put-decimal-kinds
+use Rattle.cmd_text.proofs.+put_decimal.{statement}
+use Rattle.cmd_text.proofs.+put_decimal.Goals as goal
+
+pub bounds-out-at : goal.bounds-out-at
+bounds-out-at t c = omega (arith, ap length (decimal-one _ c.if-v-lt10.true), c.requires.1)
+
+pub overflow_add-result : goal.overflow_add-result
+overflow_add-result t c = omega (arith, ap length (decimal-one _ c.if-v-lt10.true), c.requires.1)
+
+pub returns-then-v-lt10 : goal.returns-then-v-lt10
+returns-then-v-lt10 t c = put_digit _ _ _ c.if-v-lt10.true (omega (arith, ap length (decimal-one _ c.if-v-lt10.true), c.requires.1))
+
+pub put_decimal-end-requires : goal.put_decimal-end-requires
+put_decimal-end-requires t c = (omega (arith, c.if-v-lt10.false, c.requires.0), omega (arith, longer _ c.if-v-lt10.false, c.requires.1))
+
+pub bounds-out-end : goal.bounds-out-end
+bounds-out-end t c = omega (arith, longer _ c.if-v-lt10.false, c.requires.1, c.put_decimal-end.ensures.place, c.put_decimal-end.auto.out)
+
+pub overflow_add-result-2 : goal.overflow_add-result-2
+overflow_add-result-2 t c = omega (arith, longer _ c.if-v-lt10.false, c.requires.1, c.put_decimal-end.ensures.place)
+
+pub returns : goal.returns
+returns t c = put_last _ c.if-v-lt10.false c.requires.1 c.put_decimal-end.ensures

@@ -1,0 +1,48 @@
+-- `cmd_text::put_bits` meets its contract.
+-- Assumes nothing.
+use mathlib.Core.Path.{sym, ◌∙◌}
+use native.Mathlib.Omega.{arith}
+use Prim.Native.Nat.{◌-◌}
+use lib.ListN.{length}
+use borrow.Author.Rules.{rules}
+use Rattle.cmd_text.specs.Text.{characters}
+use Rattle.cmd_text.proofs.Lines.{Laying, lay_starts, lay_more, lay_ends, length-characters, character-at, bits_none, bits_some, bits_long}
+use Rattle.cmd_text.proofs.put_bits.Goals as goal
+
+-- LEFT slice-aggregate-put-text : tie.Need-slice-aggregate-put-text invariant-loop decreases-loop
+-- LEFT slice-aggregate-put-text c = search rules
+-- LEFT 
+
+pub put_text-requires : goal.put_text-requires
+put_text-requires c = rw (bits_none _ c.if-bits-eq0.true) at c.requires
+
+pub returns-then-bits-eq0 : goal.returns-then-bits-eq0
+returns-then-bits-eq0 c = rw (bits_none _ c.if-bits-eq0.true) c.put_text.ensures
+
+pub loop-i-init : goal.loop-i-init
+loop-i-init c = lay_starts _ _ _
+
+pub bounds-bits-i : goal.bounds-bits-i
+bounds-bits-i c = omega (arith, length-characters c.args.bits.now)
+
+pub overflow_add-out : goal.overflow_add-out
+overflow_add-out c =
+    omega (arith, bits_long c.args.bits.now c.if-bits-eq0.false, length-characters c.args.bits.now, c.requires, c.loop-i.invariant.within)
+
+pub bounds-out-at : goal.bounds-out-at
+bounds-out-at c = omega (arith, bits_long c.args.bits.now c.if-bits-eq0.false, c.loop-i-test.true, c.requires, c.loop-i.invariant.same)
+
+pub overflow_add-i : goal.overflow_add-i
+overflow_add-i c = omega (arith, length-characters c.args.bits.now)
+
+pub loop-i-preserved : goal.loop-i-preserved
+loop-i-preserved c =
+    lay_more _ _ _ _ _ c.loop-i.invariant _ (omega (arith, length-characters c.args.bits.now, c.loop-i-test.true)) (omega (arith, bits_long c.args.bits.now c.if-bits-eq0.false, length-characters c.args.bits.now, c.requires)) (c.bit_character.ensures ∙ sym (character-at _ _ c.loop-i-test.true))
+
+pub overflow_add-result : goal.overflow_add-result
+overflow_add-result c =
+    omega (arith, bits_long c.args.bits.now c.if-bits-eq0.false, length-characters c.args.bits.now, c.requires, c.loop-i.invariant.within)
+
+pub returns : goal.returns
+returns c =
+    rw (bits_some _ c.if-bits-eq0.false) (lay_ends _ _ _ _ _ c.loop-i.invariant (omega (arith, length-characters c.args.bits.now, c.loop-i-test.false)))

@@ -1,0 +1,21 @@
+-- The bits are written, and the switches act under them.
+-- Assumes nothing.
+use native.Mathlib.Omega.{arith}
+use borrow.Author.Rules.{rules}
+use Rattle.control_sweeps.proofs.Bounds.{each_below}
+use Rattle.control_sweeps.proofs.Places.{small}
+use Rattle.control_layers.proofs.output_switches.Goals as goal
+
+pub overflow_add-h : goal.overflow_add-h
+overflow_add-h c = omega (arith, small c.requires.1 c.requires.0)
+
+pub act_on-requires : goal.act_on-requires
+act_on-requires c = let s = c.before.before.before.before.before.before.before.before.before.before.before in (
+      s.requires.0,
+      s.requires.1,
+      s.requires.2,
+      omega arith,
+      search rules,
+      rw c.before.before.before.before.before.last-bits.ensures
+          (each_below 2 _ _ _ s.args.bits.now s.requires.4 (λ i x h. omega arith)),
+    )

@@ -1,0 +1,89 @@
+-- The three steps one after the other; the hidden numbers stay small on the way.
+-- Assumes nothing.
+use native.Mathlib.Omega.{arith}
+use borrow.Author.Rules.{rules}
+use mathlib.Core.Path.{◌≡◌, refl, sym, ap, ◌∙◌}
+use mathlib.Core.Bool.{Bool, not}
+use mathlib.Core.List.{List, [], ◌∷◌}
+use Prim.Native.Nat.{ℕ, ◌-◌}
+use Rattle.counts.specs.Counts.{up}
+use Rattle.network.specs.Log.{entry}
+use Rattle.steps.specs.Steps.{digit, step2, step3}
+use Rattle.steps.specs.Fold.{rounds_of}
+use Rattle.select.proofs.Numbers.{digit_small}
+use Rattle.control_pairs.specs.Pairs.{marks_in, bits_in, none_in}
+use Rattle.control_pairs.proofs.Held.{none_held}
+use Rattle.wirings.specs.Nets.{wiring_of}
+use Rattle.control_walk.specs.Walks.{lying}
+use Rattle.control_network.proofs.Entries.{went_then, went_as}
+use Rattle.control_network.proofs.round.Goals as goal
+
+pub step1-x-requires : goal.step1-x-requires
+step1-x-requires c = let H = c.requires.7 in (
+      c.requires.0,
+      c.requires.1,
+      c.requires.2,
+      omega arith,
+      c.requires.5,
+      H.f_below,
+      H.c_below,
+      rw H.any_is
+          (digit_small (not (none_in (up c.args.net.size) c.args.pairs.now))),
+      c.requires.8,
+    )
+
+pub step2-y-requires : goal.step2-y-requires
+step2-y-requires c = let x = c.step1-x in (
+      c.requires.0,
+      c.requires.1,
+      c.requires.2,
+      omega (arith, c.requires.4, x.ensures.0.count),
+      c.requires.6,
+      x.ensures.2.2,
+      omega (arith, c.requires.8, x.ensures.0.bit),
+    )
+
+pub step3-requires : goal.step3-requires
+step3-requires c = let x = c.step1-x in 
+    let y = c.step2-y in 
+    let H = c.requires.7 in (
+      c.requires.0,
+      c.requires.1,
+      c.requires.2,
+      c.requires.3,
+      omega (arith, c.requires.4, x.ensures.0.count, y.ensures.0.count),
+      record {
+        numbered = H.numbered;
+        any_is = y.ensures.1 ∙ x.ensures.1 ∙ H.any_is;
+        f_below = omega (arith, y.ensures.2.0, x.ensures.2.0);
+        c_below = omega (arith, y.ensures.2.1, x.ensures.2.1);
+      },
+      y.ensures.2.2,
+      omega (arith, c.requires.8, x.ensures.0.bit, y.ensures.0.bit),
+    )
+
+pub returns : goal.returns
+unfolding rounds_of
+returns c = let a = c.args in 
+    let p = c.requires in 
+    let x = c.step1-x in 
+    let y = c.step2-y in 
+    let z = c.step3 in 
+    let o = a.net.start in 
+    let m = a.net.size in 
+    let k = up m in
+    let xb : x.result.b ≡ a.w.b = omega (arith, x.ensures.0.bit) in
+    let yb : y.result.b ≡ a.w.b = omega (arith, xb, y.ensures.0.bit) in (
+      went_as (λ i. entry 1 o m a.w.b ∷ entry 2 o m (xb i) ∷ entry 3 o m (yb i) ∷ []) refl
+          (went_then (omega (arith, p.4)) x.ensures.0
+          (went_then (omega (arith, p.4, x.ensures.0.count)) y.ensures.0 z.ensures.0)),
+      z.ensures.1,
+      λ place vs ts ms bs bit G long.
+          let marks : List ℕ = marks_in k a.pairs.now ms in
+          let held : List ℕ = bits_in bit (k - 1) a.pairs.now bs in
+          let any = p.7.any_is ∙ sym (ap (λ (n : Bool). digit (not n)) (none_held k a.pairs.now ms long)) in
+          z.ensures.2 place vs ts ms bs bit long
+          ∙ ap (step3 (wiring_of a.net.topology) (lying place a.net.size bit))
+          (y.ensures.3 place vs ts marks held bit G ∙ ap (step2 (wiring_of a.net.topology) (lying place a.net.size bit))
+          (x.ensures.3 place vs ts marks held bit G any)),
+    )

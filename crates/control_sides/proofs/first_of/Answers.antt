@@ -1,0 +1,14 @@
+-- The pair's number, or twice it.
+-- Assumes nothing.
+use native.Mathlib.Omega.{arith}
+use borrow.Author.Rules.{rules}
+use Rattle.wirings.specs.Nets.{wiring_of}
+use Rattle.control_sides.proofs.first_of.Goals as goal
+
+pub returns-in-Paper : goal.returns-in-Paper
+unfolding wiring_of
+returns-in-Paper c = rw c.enum_told-1.given.1
+
+pub returns-in-Neighbour : goal.returns-in-Neighbour
+unfolding wiring_of
+returns-in-Neighbour c = rw c.enum_told-in-Neighbour-1.given.1 (omega arith)

@@ -1,0 +1,21 @@
+-- The product with the carry is 2k or 0; or the place before or behind.
+-- Assumes nothing.
+use native.Mathlib.Omega.{arith}
+use borrow.Author.Rules.{rules}
+use Rattle.wirings.specs.Nets.{wiring_of}
+use Rattle.control_sides.proofs.Pairs.{pairs, neighbours}
+use Rattle.control_sides.proofs.other_of.Goals as goal
+
+pub overflow_mul-result-in-Paper : goal.overflow_mul-result-in-Paper
+overflow_mul-result-in-Paper c = let a = c.args in rw c.at_least.ensures (omega (arith, (pairs a.k a.p).twice_fits))
+
+pub overflow_sub-result : goal.overflow_sub-result
+overflow_sub-result c = let a = c.args in rw c.at_least.ensures (pairs a.k a.p).twice_within
+
+pub returns-in-Paper : goal.returns-in-Paper
+unfolding wiring_of
+returns-in-Paper c = let a = c.args in rw (c.enum_told-1.given.1, c.at_least.ensures) (pairs a.k a.p).across
+
+pub returns-in-Neighbour : goal.returns-in-Neighbour
+unfolding wiring_of
+returns-in-Neighbour c = let a = c.args in rw c.enum_told-in-Neighbour-1.given.1 (neighbours a.k a.p).across

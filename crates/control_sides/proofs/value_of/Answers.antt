@@ -1,0 +1,22 @@
+-- k is regained under the bit's mask; or the value doubled and the bit added.
+-- Assumes nothing.
+use native.Mathlib.Omega.{arith}
+use borrow.Author.Rules.{rules}
+use Rattle.wirings.specs.Nets.{wiring_of}
+use Rattle.control_sides.proofs.Pairs.{regained, doubled}
+use Rattle.control_sides.proofs.value_of.Goals as goal
+
+pub overflow_add-result : goal.overflow_add-result
+overflow_add-result c = let a = c.args in 
+    let q = regained a.k a.v a.s c.mask.result c.mask.ensures c.requires.2 (omega (arith, c.requires.0)) in
+    omega (arith, q.0, c.requires.0, c.requires.1)
+
+pub returns-in-Paper : goal.returns-in-Paper
+unfolding wiring_of
+returns-in-Paper c = let a = c.args in 
+    let q = regained a.k a.v a.s c.mask.result c.mask.ensures c.requires.2 (omega (arith, c.requires.0)) in
+    rw c.enum_told-1.given.1 q.1
+
+pub returns-in-Neighbour : goal.returns-in-Neighbour
+unfolding wiring_of
+returns-in-Neighbour c = let a = c.args in rw c.enum_told-in-Neighbour-1.given.1 (doubled a.k a.v a.s c.requires.2)

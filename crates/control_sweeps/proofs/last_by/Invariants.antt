@@ -1,0 +1,16 @@
+-- The first i bits are written.
+-- Assumes nothing.
+use native.Mathlib.Omega.{arith}
+use mathlib.Core.Path.{◌≡◌, refl}
+use Prim.Native.Nat.{◌+◌, ◌*◌, ◌-◌, ◌%◌, ◌≤◌}
+use lib.ListN.{length, get_or, length-set}
+use Rattle.steps.specs.Sweeps.{each}
+use Rattle.control_sweeps.proofs.Places.{each_step, pair_here}
+use Rattle.control_sweeps.proofs.last_by.Given as goal
+
+abbrev pub invariant-loop-i : goal.invariant-loop-i
+invariant-loop-i l = ((l.i ≤ l.n) × (length l.bits ≡ length l.initial.bits)) ×
+    (l.bits ≡ each (λ j. l.b + j) l.i (λ j x. get_or l.trails (l.o + j * l.step) 0 % 2) l.initial.bits)
+
+abbrev pub decreases-loop-i : goal.decreases-loop-i
+decreases-loop-i l = l.n - l.i

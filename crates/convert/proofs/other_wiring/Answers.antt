@@ -1,0 +1,13 @@
+-- The other case.
+-- Assumes nothing.
+use borrow.Author.Rules.{rules}
+use Rattle.convert.specs.Calls.{across}
+use Rattle.convert.proofs.other_wiring.Goals as goal
+
+pub returns-in-Paper : goal.returns-in-Paper
+unfolding across
+returns-in-Paper c = rw c.enum_told-1.given.1
+
+pub returns-in-Neighbour : goal.returns-in-Neighbour
+unfolding across
+returns-in-Neighbour c = rw c.enum_told-in-Neighbour-1.given.1

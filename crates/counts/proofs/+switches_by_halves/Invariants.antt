@@ -1,0 +1,16 @@
+-- The proof of the cycle of calls {switches_by_halves}. The measure is n. No sum exceeds W n, and W n is small.
+-- Assumes nothing.
+use mathlib.Core.Path.{◌≡◌, sym}
+use native.Mathlib.Omega.{arith}
+use Rattle.counts.specs.Counts.{W}
+use Rattle.counts.proofs.Rule.{up_parts, W_none, W_more}
+use Rattle.counts.proofs.Bounds.{W_small}
+use Prim.Native.Nat.{ℕ, ◌+◌, ◌-◌, ◌/◌, ◌%◌, ◌≤◌, ◌<◌}
+use borrow.Fn.Kinds.{In}
+use borrow.Fn.PlainCycle.{Measures, is, falls, and}
+use Rattle.counts.proofs.switches_by_halves.Kinds as switches-by-halves-kinds
+use Rattle.counts.proofs.+switches_by_halves.{statement}
+use Rattle.counts.proofs.+switches_by_halves.Given as goal
+
+abbrev pub decreases-switches_by_halves : goal.decreases-switches_by_halves
+decreases-switches_by_halves l = l.n

@@ -1,0 +1,29 @@
+-- `counts::switches_by_formula` meets its contract: the formula holds for every n, and no step leaves 64 bits.
+-- Assumes nothing.
+use mathlib.Core.Path.{sym}
+use native.Mathlib.Omega.{arith}
+use Rattle.counts.proofs.Rule.{W_none}
+use Rattle.counts.proofs.Bounds.{In64, W_in_64}
+use borrow.Author.Rules.{rules}
+use Rattle.counts.proofs.switches_by_formula.Goals as goal
+
+told : (c : goal.After-digits-l) → In64 c.args.n c.digits-l.result
+told c = W_in_64 c.args.n c.digits-l.result c.digits-l.ensures (omega arith) (omega arith)
+
+pub returns-then-n-eq0 : goal.returns-then-n-eq0
+returns-then-n-eq0 c = sym (W_none c.args.n (omega arith))
+
+pub overflow_mul-result : goal.overflow_mul-result
+overflow_mul-result c = omega (arith, (told c).product)
+
+pub overflow_add-result : goal.overflow_add-result
+overflow_add-result c = omega (arith, (told c).product)
+
+pub overflow_shl-result : goal.overflow_shl-result
+overflow_shl-result c = omega (arith, (told c).digits)
+
+pub overflow_sub-result : goal.overflow_sub-result
+overflow_sub-result c = (told c).room
+
+pub returns : goal.returns
+returns c = (told c).count

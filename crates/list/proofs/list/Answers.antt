@@ -1,0 +1,13 @@
+-- `list::list` meets its contract.
+-- Assumes nothing.
+use mathlib.Core.Path.{sym}
+use lib.Seq.{length-take-le}
+use Rattle.cmd_text.proofs.Written.{text_fits}
+use borrow.Author.Rules.{rules}
+use Rattle.list.proofs.list.Goals as goal
+
+pub slice_bounds-text-end : goal.slice_bounds-text-end
+slice_bounds-text-end c = text_fits _ _ c.orders_text-end.ensures
+
+pub slice_bounds-write_output-end : goal.slice_bounds-write_output-end
+slice_bounds-write_output-end c = sym (length-take-le _ _ (text_fits _ _ c.orders_text-end.ensures))

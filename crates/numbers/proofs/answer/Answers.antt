@@ -1,0 +1,12 @@
+-- `numbers::answer` meets its contract.
+-- Assumes nothing.
+use borrow.Author.Rules.{rules}
+use mathlib.Core.Path.{sym, ap, ◌∙◌}
+use Rattle.numbers.specs.Reading.{answer_of}
+use Rattle.numbers.proofs.answer.Goals as goal
+
+pub returns-in-Number : goal.returns-in-Number
+returns-in-Number c = c.accept.ensures ∙ sym (ap answer_of c.enum_told-1.given.1)
+
+pub returns-in-Refused : goal.returns-in-Refused
+returns-in-Refused c = c.refuse.ensures ∙ sym (ap answer_of c.r-1.given.1)

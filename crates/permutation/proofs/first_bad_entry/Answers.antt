@@ -1,0 +1,20 @@
+-- `permutation::first_bad_entry` meets its contract.
+-- Assumes nothing.
+use borrow.Author.Rules.{rules}
+use Prim.Native.Nat.{◌-◌}
+use native.Mathlib.Omega.{arith}
+use lib.ListN.{length}
+use Rattle.permutation.specs.Permutations.{good_entry}
+use Rattle.permutation.proofs.Sweeps.{Sweeping, sweeping_starts, sweeping_more, sweeping_ends}
+use Rattle.permutation.proofs.Permutations.{good_found}
+use Rattle.permutation.proofs.first_bad_entry.Goals as goal
+
+pub loop-i-init : goal.loop-i-init
+loop-i-init c = sweeping_starts _ _
+
+pub loop-i-preserved : goal.loop-i-preserved
+loop-i-preserved c = let at = c.loop-i in 
+    sweeping_more _ _ (omega arith) (good_found _ _ _ c.wide.ensures c.count_matches-c.ensures) c.sweep-low.ensures at.invariant
+
+pub returns : goal.returns
+returns c = sweeping_ends _ _ c.loop-i-test.false c.loop-i.invariant

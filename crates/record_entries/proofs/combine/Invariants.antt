@@ -1,0 +1,19 @@
+-- `record_entries::combine` meets its contract.
+-- Assumes nothing.
+use borrow.Author.Rules.{rules}
+use mathlib.Core.Path.{◌≡◌, refl}
+use Prim.Native.Nat.{◌-◌, ◌<◌}
+use native.Mathlib.Omega.{arith}
+use lib.ListN.{length, get_or, take}
+use lib.Seq.{get_or-take}
+use Rattle.permutation.specs.Permutations.{IsPermutation}
+use Rattle.record_questions.proofs.Counting.{Counting, counting_starts, counting_more}
+use Rattle.record_entries.proofs.Fillings.{Filling, filling_starts, filling_more, combined_read, combined_filled}
+use Rattle.record_entries.proofs.combine.Given as goal
+
+abbrev pub invariant-loop-i : goal.invariant-loop-i
+invariant-loop-i l =
+    Filling (λ j. j) (λ j. get_or (take l.n l.second) (get_or (take l.n l.first) j 0) 0) l.n l.e l.i × Counting (λ j. get_or (take l.n l.second) (get_or (take l.n l.first) j 0) 0) l.fixed l.i
+
+abbrev pub decreases-loop-i : goal.decreases-loop-i
+decreases-loop-i l = l.n - l.i

@@ -1,0 +1,17 @@
+-- `record_entries::invert` meets its contract.
+-- Assumes nothing.
+use Rattle.permutation.specs.Permutations.{IsPermutation}
+use borrow.Author.Rules.{rules}
+use mathlib.Core.Path.{refl, sym, ◌∙◌}
+use Prim.Native.Nat.{◌-◌, ◌<◌}
+use native.Mathlib.Omega.{arith}
+use lib.ListN.{get_or, take}
+use lib.Seq.{get_or-take}
+use Rattle.record_entries.proofs.Fillings.{Filling, filling_starts, filling_more, filled_back}
+use Rattle.record_entries.proofs.invert.Given as goal
+
+abbrev pub invariant-loop-i : goal.invariant-loop-i
+invariant-loop-i l = Filling (λ j. get_or (take l.n l.f) j 0) (λ j. j) l.n l.back l.i
+
+abbrev pub decreases-loop-i : goal.decreases-loop-i
+decreases-loop-i l = l.n - l.i

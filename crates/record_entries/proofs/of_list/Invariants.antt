@@ -1,0 +1,16 @@
+-- `record_entries::of_list` meets its contract.
+-- Assumes nothing.
+use borrow.Author.Rules.{rules}
+use mathlib.Core.Path.{refl}
+use Prim.Native.Nat.{◌-◌}
+use native.Mathlib.Omega.{arith}
+use lib.ListN.{get_or}
+use Rattle.record_questions.proofs.Counting.{Counting, counting_starts, counting_more}
+use Rattle.record_entries.proofs.Fillings.{Filling, filling_starts, filling_more, filled_counted}
+use Rattle.record_entries.proofs.of_list.Given as goal
+
+abbrev pub invariant-loop-i : goal.invariant-loop-i
+invariant-loop-i l = Filling (λ j. j) (λ j. get_or l.list j 0) l.n l.e l.i × Counting (λ j. get_or l.list j 0) l.fixed l.i
+
+abbrev pub decreases-loop-i : goal.decreases-loop-i
+decreases-loop-i l = l.n - l.i

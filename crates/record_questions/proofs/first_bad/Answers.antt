@@ -1,0 +1,31 @@
+-- `record_questions::first_bad` meets its contract.
+-- Assumes nothing.
+use mathlib.Core.Path.{sym, ◌∙◌}
+use Prim.Native.Nat.{◌-◌, ◌≤◌}
+use native.Mathlib.Omega.{arith}
+use lib.Seq.{length-take-le}
+use Rattle.permutation.proofs.Sweeps.{Sweeping, sweeping_from, sweeping_more, sweeping_ends}
+use Rattle.record_questions.specs.Questions.{good_in_record}
+use Rattle.record_questions.proofs.Questions.{good_past, front-bad}
+use borrow.Author.Rules.{rules}
+use Rattle.record_questions.proofs.first_bad.Goals as goal
+
+pub slice_bounds-first_bad_entry-end : goal.slice_bounds-first_bad_entry-end
+slice_bounds-first_bad_entry-end c = sym (length-take-le _ _ (omega arith))
+
+pub first_bad_entry-low-requires : goal.first_bad_entry-low-requires
+first_bad_entry-low-requires c = let a = c.before.before.args in
+    omega (arith, length-take-le a.n a.e.now (omega arith))
+
+pub loop-i-init : goal.loop-i-init
+loop-i-init c = let a = c.before.before.before.args in
+    (omega arith, sweeping_from _ _ _ (omega arith) (c.first_bad_entry-low.ensures ∙ front-bad a.n a.e.now (omega arith)))
+
+pub loop-i-preserved : goal.loop-i-preserved
+loop-i-preserved c = let b7 = c.before.before.before.before.before.before.before in
+    let at = c.loop-i in 
+    let here = sym (good_past b7.args.n b7.args.e.now at.i at.invariant.0) in
+    (omega arith, sweeping_more _ _ (omega arith) here c.sweep-low.ensures at.invariant.1)
+
+pub returns : goal.returns
+returns c = sweeping_ends _ _ c.loop-i-test.false c.loop-i.invariant.1

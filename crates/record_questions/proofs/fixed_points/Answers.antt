@@ -1,0 +1,19 @@
+-- `record_questions::fixed_points` meets its contract.
+-- Assumes nothing.
+use borrow.Author.Rules.{rules}
+use mathlib.Core.Path.{refl, ◌∙◌}
+use Prim.Native.Nat.{◌-◌, ◌≤◌}
+use native.Mathlib.Omega.{arith}
+use lib.ListN.{get_or}
+use Rattle.record_questions.proofs.Counting.{Counting, counting_starts, counting_more, counted}
+use Rattle.record_questions.proofs.fixed_points.Goals as goal
+
+pub loop-i-init : goal.loop-i-init
+loop-i-init c = (omega arith, counting_starts _)
+
+pub loop-i-preserved : goal.loop-i-preserved
+loop-i-preserved c = (omega arith, counting_more _ refl c.home-c.ensures.0 c.loop-i.invariant.1)
+
+pub returns : goal.returns
+returns c = c.wide.ensures
+    ∙ counted _ _ c.args.list.now (omega arith) refl (λ v l. refl) c.loop-i.invariant.1

@@ -1,0 +1,9 @@
+-- `records::Permutation::fixed_points` meets its contract.
+-- Assumes nothing.
+use mathlib.Core.Path.{◌∙◌}
+use Rattle.records.proofs.Replies.{asking_back}
+use borrow.Author.Rules.{rules}
+use Rattle.records.proofs.Permutation.fixed_points.Goals as goal
+
+pub returns : goal.returns
+returns c = c.give.ensures ∙ asking_back _ c.fixed_points_of.ensures

@@ -1,0 +1,17 @@
+-- `rows::read_row` meets its contract.
+-- Assumes nothing.
+use borrow.Author.Rules.{rules}
+use native.Mathlib.Omega.{arith}
+use mathlib.Core.Path.{sym, ap, ◌∙◌}
+use Prim.Native.Nat.{◌-◌}
+use Rattle.numbers.specs.Numbers.{sevens}
+use Rattle.numbers.specs.Reading.{meaning}
+use Rattle.numbers.proofs.Numbers.{reads, refused, value_small}
+use Rattle.rows.proofs.Reading.{Reading, reading_starts, reading_more, reading_stops, reading_ends}
+use Rattle.rows.proofs.read_row.Given as goal
+
+abbrev pub invariant-loop-j : goal.invariant-loop-j
+invariant-loop-j l = Reading sevens l.input l.start l.k l.initial.values l.values l.last l.at l.j
+
+abbrev pub decreases-loop-j : goal.decreases-loop-j
+decreases-loop-j l = l.k - l.j

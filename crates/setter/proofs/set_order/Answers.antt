@@ -1,0 +1,9 @@
+-- The paper's case.
+-- Assumes nothing.
+use borrow.Author.Rules.{rules}
+use Rattle.wirings.specs.Nets.{wiring_of}
+use Rattle.setter.proofs.set_order.Goals as goal
+
+pub returns : goal.returns
+unfolding wiring_of
+returns c = c.set_order_in.ensures

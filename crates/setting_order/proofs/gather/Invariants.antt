@@ -1,0 +1,16 @@
+-- `setting_order::gather` meets its contract.
+-- Assumes nothing.
+use Prim.Native.Nat.{◌-◌}
+use native.Mathlib.Omega.{arith}
+use borrow.Author.Rules.{rules}
+use Rattle.permutation.specs.Permutations.{tabulate}
+use Rattle.permutation.proofs.Tables.{length-tabulate, tabulate-at}
+use Rattle.answers.proofs.Putting.{Over, over_starts, each_more, each-ends}
+use Rattle.setting_order.specs.Inner.{number_in}
+use Rattle.setting_order.proofs.gather.Given as goal
+
+abbrev pub invariant-loop-i : goal.invariant-loop-i
+invariant-loop-i l = Over (tabulate (number_in l.blocks) l.n) l.initial.order l.order l.n l.i
+
+abbrev pub decreases-loop-i : goal.decreases-loop-i
+decreases-loop-i l = l.n - l.i

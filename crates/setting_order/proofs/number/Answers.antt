@@ -1,0 +1,26 @@
+-- `carried::number` meets its contract.
+-- Assumes nothing.
+use lib.ListN.{length-set}
+use Prim.Native.Nat.{◌-◌}
+use native.Mathlib.Omega.{arith}
+use borrow.Author.Rules.{rules}
+use Rattle.setting_order.proofs.Numbering.{Numbering, numbering_starts, numbering_more, numbering_ends}
+use Rattle.setting_order.proofs.number.Goals as goal
+
+pub loop-i-init : goal.loop-i-init
+loop-i-init c = numbering_starts _ _
+
+pub bounds-blocks-at : goal.bounds-blocks-at
+bounds-blocks-at c = omega (arith, c.loop-i.invariant.same, c.requires)
+
+pub bounds-blocks-second : goal.bounds-blocks-second
+bounds-blocks-second c = rw length-set (omega (arith, c.loop-i.invariant.same, c.requires))
+
+pub loop-i-preserved : goal.loop-i-preserved
+loop-i-preserved c = numbering_more _ _ c.loop-i.invariant c.loop-i-test.true c.requires.1
+
+pub shape_of-blocks : goal.shape_of-blocks
+shape_of-blocks c = c.loop-i.invariant.same
+
+pub returns : goal.returns
+returns c = numbering_ends _ _ c.loop-i.invariant c.loop-i-test.false

@@ -1,0 +1,36 @@
+-- `sheet_reader::read_body` meets its contract.
+-- Assumes nothing.
+use native.Mathlib.Omega.{arith}
+use mathlib.Core.Path.{sym, ◌∙◌}
+use lib.Seq.{length-take-le}
+use borrow.Author.Tests.{not-true, not-false}
+use Rattle.sheets.specs.Sheet.{numbers_for}
+use Rattle.rows.proofs.Rows.{numbers_fit}
+use Rattle.sheets.proofs.Asking.{body_stops, row_there, body_fill, body_surplus, body_done}
+use borrow.Author.Rules.{rules}
+use Rattle.numbers.specs.Numbers.{sevens}
+use Rattle.numbers.proofs.Numbers.{value_small}
+use Rattle.sheet_reader.proofs.read_body.Goals as goal
+
+pub returns-in_default : goal.returns-in_default
+returns-in_default c = body_stops _ _ _ c.enum_told-1.given.1 c.read_row-row.ensures
+
+pub slice_bounds-filled-end-2 : goal.slice_bounds-filled-end-2
+slice_bounds-filled-end-2 c = let b10 = b6.before.before.before.before in
+    sym (length-take-le (numbers_for b10.args.w) b6.read-row.new.1.1.1.0 (omega (arith, b6.read-row.auto.1.1.1.0, b10.requires)))
+
+pub filled-requires : goal.filled-requires
+filled-requires c = let b10 = b6.before.before.before.before in
+    (length-take-le (numbers_for b10.args.w) b6.read-row.new.1.1.1.0 (omega (arith, b6.read-row.auto.1.1.1.0, b10.requires)), b10.requires.0, λ i. rw (row_there _ _ _ c.before.before.row.given.1 b6.read-row.ensures) (numbers_fit sevens _ (value_small _) _ _ i))
+
+pub returns-then-not-filled : goal.returns-then-not-filled
+returns-then-not-filled c =
+    body_fill _ _ _ c.before.before.before.before.row.given.1 c.before.before.before.before.before.before.before.before.read-row.ensures (sym (not-true _ c.if-not-filled.true) ∙ c.filled.ensures)
+
+pub returns-then-end-input : goal.returns-then-end-input
+returns-then-end-input c =
+    body_surplus _ _ _ b5.row.given.1 b9.read-row.ensures (sym (not-false _ c.if-not-filled.false) ∙ c.filled.ensures) c.if-end-input.true
+
+pub returns : goal.returns
+returns c =
+    body_done _ _ _ b5.row.given.1 b9.read-row.ensures (sym (not-false _ c.if-not-filled.false) ∙ c.filled.ensures) c.if-end-input.false

@@ -1,0 +1,26 @@
+-- `show::show` meets its contract.
+-- Assumes nothing.
+use mathlib.Core.Path.{◌≡◌, sym}
+use mathlib.Core.List.{List}
+use Prim.Native.Nat.{ℕ, ◌≤◌}
+use lib.ListN.{length}
+use lib.Seq.{length-take-le}
+use borrow.Author.Rules.{rules}
+use Rattle.answers.specs.declared.Answer.{Answer}
+use Rattle.answers.specs.Questions.{first_no}
+use Rattle.answers.specs.Outcomes.{outcome}
+use Rattle.sheets.specs.Calls.{places_in, read_questions, setting_in}
+use Rattle.cmd_show.specs.Show.{setting_text, show_call}
+use Rattle.cmd_arguments.proofs.Streams.{made_within}
+use Rattle.show.proofs.show.Goals as goal
+
+-- the text is within the buffer
+within : (sheet out : List ℕ) {a : Answer} {after : List ℕ} → outcome a after ≡ show_call sheet out → a.count ≤ length after
+unfolding show_call
+within sheet out e = made_within (first_no (read_questions sheet 9217)) (setting_text (places_in sheet) (setting_in sheet)) out e
+
+pub slice_bounds-text-end : goal.slice_bounds-text-end
+slice_bounds-text-end c = within _ _ c.show_sheet-answer.ensures
+
+pub slice_bounds-finish-end : goal.slice_bounds-finish-end
+slice_bounds-finish-end c = sym (length-take-le _ _ (within _ _ c.show_sheet-answer.ensures))

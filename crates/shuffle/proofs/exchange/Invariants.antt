@@ -1,0 +1,13 @@
+-- `shuffle::exchange` meets its contract.
+-- Assumes nothing.
+use borrow.Author.Rules.{rules}
+use Prim.Native.Nat.{◌-◌}
+use lib.ListN.{length, length-set}
+use Rattle.shuffle.proofs.Steps.{Stepping, stepping_starts, stepping_more, stepping_ends}
+use Rattle.shuffle.proofs.exchange.Given as goal
+
+abbrev pub invariant-loop-i : goal.invariant-loop-i
+invariant-loop-i l = Stepping l.words l.initial.out l.out l.i
+
+abbrev pub decreases-loop-i : goal.decreases-loop-i
+decreases-loop-i l = length l.words - l.i

@@ -1,0 +1,18 @@
+-- Each wiring's own distance.
+-- Assumes nothing.
+use native.Mathlib.Omega.{arith}
+use borrow.Author.Rules.{rules}
+use Rattle.wirings.specs.Nets.{step_of}
+use Rattle.wirings.proofs.step.Goals as goal
+
+pub overflow_mul-result : goal.overflow_mul-result
+unfolding step_of
+overflow_mul-result c = let p = rw c.enum_told-in-Neighbour-1.given.1 at c.requires in omega (arith, p)
+
+pub returns-in-Paper : goal.returns-in-Paper
+unfolding step_of
+returns-in-Paper c = rw c.enum_told-1.given.1
+
+pub returns-in-Neighbour : goal.returns-in-Neighbour
+unfolding step_of
+returns-in-Neighbour c = rw c.enum_told-in-Neighbour-1.given.1
