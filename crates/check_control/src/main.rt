@@ -5,8 +5,8 @@
 mod calls;
 mod nets;
 mod orders;
-mod refusals;
 mod plain_setter;
+mod refusals;
 
 use answers::Answer;
 use tally::Tally;

@@ -237,5 +237,8 @@ fn main() {
     tally::print(b"numbers", pairs());
     tally::print(b"short sheets", shorts());
     tally::print(b"round trips", trips());
-    tally::print(b"round trips of canonical settings", canonical_trips::trips());
+    tally::print(
+        b"round trips of canonical settings",
+        canonical_trips::trips(),
+    );
 }

@@ -35,26 +35,26 @@ packed-next-requires c = let h : c.args.step < 65536 = omega (arith, c.requires.
     (omega arith, h, h, omega arith)
 
 pub overflow_add-o : goal.overflow_add-o
-overflow_add-o c = let p = c.requires in 
+overflow_add-o c = let p = c.requires in
     omega (arith, p.1.near, p.0.places)
 
 pub packed-x-requires : goal.packed-x-requires
-packed-x-requires c = let p = c.requires in 
+packed-x-requires c = let p = c.requires in
     (omega arith, omega (arith, p.0.places), omega (arith, p.1.near, p.0.places), omega (arith, p.0.enough, p.0.short))
 
 pub loop-i-init : goal.loop-i-init
 loop-i-init c = let a = c.args in (
-      (omega arith, (refl, refl)),
-      switch-first a.step a.gap a.o a.e c.packed-x.result c.packed-x.ensures,
-      first_none a.width a.step a.gap a.o a.bits.now a.e a.e a.blocks.now a.log.now,
-    )
+  (omega arith, (refl, refl)),
+  switch-first a.step a.gap a.o a.e c.packed-x.result c.packed-x.ensures,
+  first_none a.width a.step a.gap a.o a.bits.now a.e a.e a.blocks.now a.log.now,
+)
 
 pub overflow_mul-a : goal.overflow_mul-a
 overflow_mul-a c = omega (arith, (lies c).ends)
 
 pub exchange_whole-requires : goal.exchange_whole-requires
 unfolding Bits
-exchange_whole-requires c = let p = c.requires in 
+exchange_whole-requires c = let p = c.requires in
     let x = lies c.before in
     (p.0.settings _, p.3, omega (arith, x.apart, p.2), omega (arith, x.ends, p.2))
 
@@ -63,20 +63,20 @@ overflow_add-a c = omega (arith, (lies e).ends, c.requires.2)
 
 pub exchange_rest-requires : goal.exchange_rest-requires
 unfolding Bits
-exchange_rest-requires c = let p = c.requires in 
+exchange_rest-requires c = let p = c.requires in
     let x = lies e in
     (p.0.settings _, omega (arith, x.apart, p.2), omega (arith, x.ends, p.2, c.exchange_whole.auto.blocks))
 
 pub overflow_add-x : goal.overflow_add-x
-overflow_add-x c = let a = c.args in 
+overflow_add-x c = let a = c.args in
     let small = switch_small a.step a.gap a.o a.e c.loop-i.i _ _ c.packed-next.ensures c.loop-i.invariant.1
     (omega (arith, (lies n).place)) (omega (arith, c.requires.1.pace, c.requires.0.places))
     (omega (arith, c.requires.0.enough, c.requires.0.short)) in
     omega (arith, small)
 
 pub loop-i-preserved : goal.loop-i-preserved
-loop-i-preserved c = let a = c.args in 
-    let i = c.loop-i.i in 
+loop-i-preserved c = let a = c.args in
+    let i = c.loop-i.i in
     let place = (lies n).place in
     let k = c.exchange_rest.auto.blocks ∙ c.exchange_whole.auto.blocks in (
       (omega arith, (k ∙ c.loop-i.invariant.0.1.0, c.write_packed.auto.log ∙ c.loop-i.invariant.0.1.1)),
@@ -99,6 +99,6 @@ pub shape_of-log : goal.shape_of-log
 shape_of-log c = c.loop-i.invariant.0.1.1
 
 pub returns : goal.returns
-returns c = let a = c.args in 
+returns c = let a = c.args in
     let done : c.loop-i.i ≡ a.c = omega arith in
     rw done at c.loop-i.invariant.2

@@ -31,7 +31,7 @@ pub overflow_mul-across : goal.overflow_mul-across
 overflow_mul-across c = omega (arith, few_fit c.requires.0 c.requires.1 c.args.gap (omega (arith, c.requires.1.near)))
 
 pub overflow_mul-past : goal.overflow_mul-past
-overflow_mul-past c = let p = c.requires in 
+overflow_mul-past c = let p = c.requires in
     omega (arith, past_near p.0 p.1)
 
 pub packed-next-requires : goal.packed-next-requires
@@ -39,19 +39,19 @@ packed-next-requires c = let h : c.args.step < 65536 = omega (arith, c.requires.
     (omega arith, h, h, omega arith)
 
 pub overflow_add-o : goal.overflow_add-o
-overflow_add-o c = let p = c.requires in 
+overflow_add-o c = let p = c.requires in
     omega (arith, past_near p.0 p.1, p.0.places)
 
 pub overflow_add-past : goal.overflow_add-past
-overflow_add-past c = let p = c.requires in 
+overflow_add-past c = let p = c.requires in
     omega (arith, past_near p.0 p.1, p.0.places, p.1.near)
 
 pub overflow_add-o-2 : goal.overflow_add-o-2
-overflow_add-o-2 c = let p = c.requires in 
+overflow_add-o-2 c = let p = c.requires in
     omega (arith, past_near p.0 p.1, p.0.places, p.1.near)
 
 pub packed-x-requires : goal.packed-x-requires
-packed-x-requires c = let p = c.requires in 
+packed-x-requires c = let p = c.requires in
     let n = past_near p.0 p.1 in
     (omega arith, omega (arith, n, p.0.places), omega (arith, n, p.1.near, p.0.places), omega (arith, p.0.enough, p.0.short))
 
@@ -68,7 +68,7 @@ overflow_mul-a c = omega (arith, (lies c).ends)
 
 pub exchange_whole-requires : goal.exchange_whole-requires
 unfolding Bits
-exchange_whole-requires c = let p = c.requires in 
+exchange_whole-requires c = let p = c.requires in
     let x = lies c.before in
     (p.0.settings _, p.3, omega (arith, x.apart, p.2), omega (arith, x.ends, p.2))
 
@@ -77,12 +77,12 @@ overflow_add-a c = omega (arith, (lies e).ends, c.requires.2)
 
 pub exchange_rest-requires : goal.exchange_rest-requires
 unfolding Bits
-exchange_rest-requires c = let p = c.requires in 
+exchange_rest-requires c = let p = c.requires in
     let x = lies e in
     (p.0.settings _, omega (arith, x.apart, p.2), omega (arith, x.ends, p.2, c.exchange_whole.auto.blocks))
 
 pub loop-i-preserved : goal.loop-i-preserved
-loop-i-preserved c = let a = c.args in 
+loop-i-preserved c = let a = c.args in
     let j = c.loop-i.i - 1 in
     let first = length a.bits.now - (a.e + a.c) in
     let i : c.loop-i.i ≡ suc j = omega arith in
@@ -109,6 +109,6 @@ pub shape_of-log : goal.shape_of-log
 shape_of-log c = c.loop-i.invariant.0.1.1.1
 
 pub returns : goal.returns
-returns c = let a = c.args in 
+returns c = let a = c.args in
     leads_none a.width a.step a.gap a.o a.bits.now (length a.bits.now - (a.e + a.c)) a.e a.blocks.now
     a.log.now a.c c.loop-i.i c.loop-i.to c.loop-i.blocks c.loop-i.log (omega arith) c.loop-i.invariant.2

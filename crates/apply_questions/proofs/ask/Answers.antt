@@ -17,30 +17,30 @@ use Rattle.apply_questions.proofs.ask.Goals as goal
 
 pub returns-then-n-gt-MOST_PLACES : goal.returns-then-n-gt-MOST_PLACES
 unfolding apply_questions
-returns-then-n-gt-MOST_PLACES c = let a = c.args in 
+returns-then-n-gt-MOST_PLACES c = let a = c.args in
     let qs = apply_questions a.n a.width a.filled a.bits.now a.room in
     c.refuse.ensures ∙ told (first_no_lem 0 qs (few_no a.n (omega arith)))
 
 pub returns-then-width-lt1 : goal.returns-then-width-lt1
 unfolding apply_questions
-returns-then-width-lt1 c = let a = c.args in 
+returns-then-width-lt1 c = let a = c.args in
     let qs = apply_questions a.n a.width a.filled a.bits.now a.room in
     c.refuse-then-width-lt1.ensures ∙ told (first_no_lem 1 qs (few_yes a.n c.if-n-gt-MOST_PLACES.false, narrow_no a.width (omega arith)))
 
 pub returns-then-width-gt256 : goal.returns-then-width-gt256
 unfolding apply_questions
-returns-then-width-gt256 c = let a = c.args in 
+returns-then-width-gt256 c = let a = c.args in
     let qs = apply_questions a.n a.width a.filled a.bits.now a.room in
     c.refuse-then-width-gt256.ensures ∙ told (first_no_lem 1 qs (few_yes a.n c.if-n-gt-MOST_PLACES.false, wide_no a.width c.if-width-lt1.false (omega arith)))
 
 pub overflow_mul-n : goal.overflow_mul-n
-overflow_mul-n c = let a = c.args in 
+overflow_mul-n c = let a = c.args in
     let q : a.n * a.width ≤ 1024 * 256 = mul-le-mul c.if-n-gt-MOST_PLACES.false c.if-width-gt256.false in
     omega arith
 
 pub returns-then-filled-n : goal.returns-then-filled-n
 unfolding apply_questions
-returns-then-filled-n c = let a = c.args in 
+returns-then-filled-n c = let a = c.args in
     let qs = apply_questions a.n a.width a.filled a.bits.now a.room in
     let few = few_yes a.n c.if-n-gt-MOST_PLACES.false in
     let fits = width_yes a.width c.if-width-lt1.false c.if-width-gt256.false in
@@ -48,7 +48,7 @@ returns-then-filled-n c = let a = c.args in
 
 pub returns-then-bits-due : goal.returns-then-bits-due
 unfolding apply_questions
-returns-then-bits-due c = let a = c.args in 
+returns-then-bits-due c = let a = c.args in
     let due : c.switches-due.result ≡ W a.n = c.switches-due.ensures.0 in
     let qs = apply_questions a.n a.width a.filled a.bits.now a.room in
     let few = few_yes a.n c.if-n-gt-MOST_PLACES.false in
@@ -58,7 +58,7 @@ returns-then-bits-due c = let a = c.args in
 
 pub returns-then-room-due : goal.returns-then-room-due
 unfolding apply_questions
-returns-then-room-due c = let a = c.args in 
+returns-then-room-due c = let a = c.args in
     let due : c.switches-due.result ≡ W a.n = c.switches-due.ensures.0 in
     let qs = apply_questions a.n a.width a.filled a.bits.now a.room in
     let few = few_yes a.n c.if-n-gt-MOST_PLACES.false in
@@ -69,9 +69,9 @@ returns-then-room-due c = let a = c.args in
 
 pub returns-then-bad-bits : goal.returns-then-bad-bits
 unfolding apply_questions
-returns-then-bad-bits c = let a = c.args in 
+returns-then-bad-bits c = let a = c.args in
     let due : c.switches-due.result ≡ W a.n = c.switches-due.ensures.0 in
-    let bad = c.first_bad_bit-bad.ensures in 
+    let bad = c.first_bad_bit-bad.ensures in
     let qs = apply_questions a.n a.width a.filled a.bits.now a.room in
     let few = few_yes a.n c.if-n-gt-MOST_PLACES.false in
     let fits = width_yes a.width c.if-width-lt1.false c.if-width-gt256.false in
@@ -83,9 +83,9 @@ returns-then-bad-bits c = let a = c.args in
 
 pub returns : goal.returns
 unfolding apply_questions
-returns c = let a = c.args in 
+returns c = let a = c.args in
     let due : c.switches-due.result ≡ W a.n = c.switches-due.ensures.0 in
-    let bad = c.first_bad_bit-bad.ensures in 
+    let bad = c.first_bad_bit-bad.ensures in
     let qs = apply_questions a.n a.width a.filled a.bits.now a.room in
     let few = few_yes a.n c.if-n-gt-MOST_PLACES.false in
     let fits = width_yes a.width c.if-width-lt1.false c.if-width-gt256.false in

@@ -6,5 +6,5 @@ use borrow.Author.Rules.{rules}
 use Rattle.capi_values.proofs.tell_drawn.Goals as goal
 
 pub returns : goal.returns
-returns c = let r = c.args.r in 
+returns c = let r = c.args.r in
     ap (λ (a : Answer). record { answer = a; used = r.used }) c.tell-answer.ensures

@@ -6,5 +6,5 @@ use borrow.Author.Rules.{rules}
 use Rattle.capi_values.proofs.tell_record.Goals as goal
 
 pub returns : goal.returns
-returns c = let r = c.args.reply in 
+returns c = let r = c.args.reply in
     ap (λ (a : Answer). record { answer = a; fixed = r.permutation.fixed }) c.tell-answer.ensures

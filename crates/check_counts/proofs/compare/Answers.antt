@@ -5,8 +5,8 @@ use Rattle.check_counts.proofs.compare.Goals as goal
 
 -- LEFT slice-aggregate-compared : tie.Need-slice-aggregate-compared invariant-loop decreases-loop
 -- LEFT slice-aggregate-compared c = search rules
--- LEFT 
+-- LEFT
 
 -- LEFT slice-aggregate-compared-2 : tie.Need-slice-aggregate-compared-2 invariant-loop decreases-loop
 -- LEFT slice-aggregate-compared-2 c = search rules
--- LEFT 
+-- LEFT

@@ -5,4 +5,4 @@ use Rattle.check_neighbour.proofs.check_sizes.Goals as goal
 
 -- LEFT array-read-check-size : tie.Need-array-read-check-size invariant-loop decreases-loop
 -- LEFT array-read-check-size c = search rules
--- LEFT 
+-- LEFT

@@ -10,11 +10,11 @@ loop-at-init c = tt
 
 -- LEFT part-show-start : tie.Need-slice-bounds-show-start invariant-loop decreases-loop
 -- LEFT part-show-start c = search rules
--- LEFT 
+-- LEFT
 
 -- LEFT part-show-end : tie.Need-slice-bounds-show-end invariant-loop decreases-loop
 -- LEFT part-show-end c = search rules
--- LEFT 
+-- LEFT
 
 pub loop-at-preserved : goal.loop-at-preserved
 loop-at-preserved c = tt

@@ -6,4 +6,4 @@ use Rattle.check_sheets.proofs.shorts.Goals as goal
 
 -- LEFT array-read-short : tie.Need-array-read-short invariant-loop decreases-loop
 -- LEFT array-read-short c = search rules
--- LEFT 
+-- LEFT

@@ -14,7 +14,7 @@ slice_bounds-draw_words-end c = sym (length-take-le _ _ (omega (arith, c.bytes_f
 
 pub returns : goal.returns
 unfolding draw_call
-returns c = let a = c.args in 
-    let most = c.bytes_for.ensures.0 in 
+returns c = let a = c.args in
+    let most = c.bytes_for.ensures.0 in
     let words = gathered a.n a.bytes.now (replicate 1088 0) most c.least-count.ensures refl c.gather.ensures in
     c.draw_words.ensures ∙ ap (λ ws. draw_from a.n ws a.out.now) words

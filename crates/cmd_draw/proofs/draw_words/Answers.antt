@@ -19,8 +19,8 @@ slice_bounds-put_order-end c =
     sym (length-take-le _ _ (omega (arith, few _ _ c.shuffle-drawn.ensures c.if-answer-ne0.false, c.shuffle-drawn.auto)))
 
 pub put_order-requires : goal.put_order-requires
-put_order-requires c = let h = c.if-answer-ne0.false in 
-    let a = c.args in 
+put_order-requires c = let h = c.if-answer-ne0.false in
+    let a = c.args in
     let short = length-take a.n c.shuffle-drawn.new.out.0 in
     (omega (arith, short, few _ _ c.shuffle-drawn.ensures h), omega arith, entries_few _ _ c.shuffle-drawn.ensures h)
 

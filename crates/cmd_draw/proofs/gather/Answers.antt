@@ -17,7 +17,7 @@ bounds-words-i c = omega (arith, c.loop-i.invariant.same)
 
 pub loop-i-preserved : goal.loop-i-preserved
 loop-i-preserved c = let f = word_at c.args.bytes.now in
-    let n = c.args.n in 
+    let n = c.args.n in
     each_more f (tabulate f n) n (length-tabulate f n) (tabulate-at f n) c.loop-i-test.true c.requires.1 c.word_at.ensures c.loop-i.invariant
 
 pub shape_of-words : goal.shape_of-words
@@ -25,5 +25,5 @@ shape_of-words c = c.loop-i.invariant.same
 
 pub returns : goal.returns
 returns c = let f = word_at c.args.bytes.now in
-    let n = c.args.n in 
+    let n = c.args.n in
     each-ends f (tabulate f n) n (length-tabulate f n) (tabulate-at f n) c.loop-i-test.false c.loop-i.invariant

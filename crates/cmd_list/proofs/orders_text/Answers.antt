@@ -13,11 +13,11 @@ use borrow.Author.Rules.{rules}
 use Rattle.cmd_list.proofs.orders_text.Goals as goal
 
 pub put_refusal-requires : goal.put_refusal-requires
-put_refusal-requires c = let a = c.answer.result in 
+put_refusal-requires c = let a = c.answer.result in
     omega (arith, refusal_fits a.number a.place (omega arith) (omega arith), c.well_formed)
 
 pub returns-in_default : goal.returns-in_default
-returns-in_default c = let told = c.enum_told-1.given.1 in 
+returns-in_default c = let told = c.enum_told-1.given.1 in
     let P = rw (c.answer.ensures ∙ ap answer_of told) at c.put_refusal.ensures in
     prints _ (no_number _ (refused _ 0 _ _ (ap meaning (sym told) ∙ c.read_number-read.ensures))) P
 
@@ -31,7 +31,7 @@ returns-then-n-gt6 c = let P = rw c.refuse.ensures at c.put_refusal-then-n-gt6.e
     prints _ (too_long _ N c.if-n-gt6.true) P
 
 pub put_refusal-requires-then-next-input : goal.put_refusal-requires-then-next-input
-put_refusal-requires-then-next-input c = let p = c.read-1.given.0.1.0 in 
+put_refusal-requires-then-next-input c = let p = c.read-1.given.0.1.0 in
     rw c.refuse-then-next-input.ensures (omega (arith, refusal_fits 12 p (omega arith) (omega arith), c.well_formed))
 
 pub returns-then-next-input : goal.returns-then-next-input

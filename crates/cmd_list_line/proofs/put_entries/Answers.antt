@@ -18,25 +18,25 @@ pub overflow_cast-entries : goal.overflow_cast-entries
 overflow_cast-entries c = record { fits = omega (arith, (c.shared_slice_known-2-1.given 0).fits) }
 
 pub put_decimal-end-requires : goal.put_decimal-end-requires
-put_decimal-end-requires c = let xs = c.args.entries.now in 
+put_decimal-end-requires c = let xs = c.args.entries.now in
     let h = rw (entries_some xs c.if-entries-eq0.false) at c.requires in
     room_first c.args.out.now c.args.at (decimal (get_or xs 0 0)) (behind_commas (drop 1 xs)) h
 
 pub loop-i-init : goal.loop-i-init
-loop-i-init c = let xs = c.args.entries.now in 
-    let p = c.put_decimal-end in 
+loop-i-init c = let xs = c.args.entries.now in
+    let p = c.put_decimal-end in
     let h = rw (entries_some xs c.if-entries-eq0.false) at c.requires in
     parting_starts _ _ _ (omega (arith, h, length-append (decimal (get_or xs 0 0)) (behind_commas (drop 1 xs)), p.ensures.place, p.auto.out))
 
 -- LEFT slice-aggregate-put-text : tie.Need-slice-aggregate-put-text invariant-loop decreases-loop
 -- LEFT slice-aggregate-put-text c = search rules
--- LEFT 
+-- LEFT
 
 pub put_text-a-requires : goal.put_text-a-requires
 put_text-a-requires c = comma_room c.loop-i.invariant c.loop-i-test.true
 
 pub overflow_cast-entries-in-loop-i : goal.overflow_cast-entries-in-loop-i
-overflow_cast-entries-in-loop-i c = let l = c.loop-i in 
+overflow_cast-entries-in-loop-i c = let l = c.loop-i in
     record { fits = omega (arith, (c.shared_slice_known-in-loop-i-1.given l.i).fits) }
 
 pub put_decimal-end-requires-in-loop-i : goal.put_decimal-end-requires-in-loop-i
@@ -46,8 +46,8 @@ pub loop-i-preserved : goal.loop-i-preserved
 loop-i-preserved c = parting_more c.loop-i.invariant c.loop-i-test.true c.put_text-a.ensures c.put_decimal-end-in-loop-i.ensures
 
 pub returns : goal.returns
-returns c = let xs = c.args.entries.now in 
+returns c = let xs = c.args.entries.now in
     let some = entries_some xs c.if-entries-eq0.false in
-    let first = c.put_decimal-end.ensures in 
+    let first = c.put_decimal-end.ensures in
     let rest = parting_ends c.loop-i.invariant c.loop-i-test.false in
     rw some (put_both _ _ (decimal (get_or xs 0 0)) (behind_commas (drop 1 xs)) (rw some at c.requires) first rest)

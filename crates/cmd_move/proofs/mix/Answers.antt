@@ -23,6 +23,6 @@ slice_bounds-apply-end c = sym (length-take-le _ _ (setting_room _ _ c.read_sett
 
 pub returns : goal.returns
 unfolding mix_call apply_call
-returns c = let a = c.args in 
+returns c = let a = c.args in
     move_settles (moved paper) a.sheet.now a.width a.blocks.now _ c.read_setting-read.ensures c.read-1.given.1
     (unlogged c.apply.ensures)

@@ -23,6 +23,6 @@ slice_bounds-apply_inverse-end c = sym (length-take-le _ _ (setting_room _ _ c.r
 
 pub returns : goal.returns
 unfolding unmix_call inverse_call
-returns c = let a = c.args in 
+returns c = let a = c.args in
     move_settles (moved_back paper) a.sheet.now a.width a.blocks.now _ c.read_setting-read.ensures c.read-1.given.1
     (unlogged c.apply_inverse.ensures)

@@ -32,9 +32,9 @@ pub bounds-out-at : goal.bounds-out-at
 bounds-out-at c = omega (arith, c.loop-e-test.true, c.loop-e.invariant.same, long c.args.log.now c.args.bits.now c.args.place, c.requires)
 
 pub loop-e-preserved : goal.loop-e-preserved
-loop-e-preserved c = let log = c.args.log.now in 
-    let bits = c.args.bits.now in 
-    let place = c.args.place in 
+loop-e-preserved c = let log = c.args.log.now in
+    let bits = c.args.bits.now in
+    let place = c.args.place in
     lay_more _ _ _ _ _ c.loop-e.invariant _ (omega (arith, c.loop-e-test.true, long log bits place)) c.requires.1
     (c.mark_at.ensures
     ∙ marked log bits place c.loop-e.e _ _ c.first_of-lower.ensures c.second_of-upper.ensures

@@ -14,7 +14,7 @@ put_bits-w-requires c = omega (arith, bits_few c.args.n c.args.bits.now c.requir
 
 -- LEFT slice-aggregate-put-text : tie.Need-slice-aggregate-put-text
 -- LEFT slice-aggregate-put-text c = search rules
--- LEFT 
+-- LEFT
 
 pub slice_bounds-columns-end : goal.slice_bounds-columns-end
 slice_bounds-columns-end c = put_within c.put_bits-w.ensures

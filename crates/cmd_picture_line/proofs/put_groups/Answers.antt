@@ -21,11 +21,11 @@ put_group-top-requires c =
 
 -- LEFT part-put-group-start : tie.Need-slice-bounds-put-group-start
 -- LEFT part-put-group-start c = search rules
--- LEFT 
+-- LEFT
 
 -- LEFT part-put-group-end : tie.Need-slice-bounds-put-group-end
 -- LEFT part-put-group-end c = search rules
--- LEFT 
+-- LEFT
 
 pub put_group-bottom-requires : goal.put_group-bottom-requires
 put_group-bottom-requires c = let b9 = b4.before.before.before.before.before in
@@ -33,11 +33,11 @@ put_group-bottom-requires c = let b9 = b4.before.before.before.before.before in
 
 -- LEFT part-put-group-start-2 : tie.Need-slice-bounds-put-group-start-2
 -- LEFT part-put-group-start-2 c = search rules
--- LEFT 
+-- LEFT
 
 -- LEFT part-put-group-end-2 : tie.Need-slice-bounds-put-group-end-2
 -- LEFT part-put-group-end-2 c = search rules
--- LEFT 
+-- LEFT
 
 pub put_group-output-requires : goal.put_group-output-requires
 put_group-output-requires c = let b14 = b9.before.before.before.before.before in
@@ -45,11 +45,11 @@ put_group-output-requires c = let b14 = b9.before.before.before.before.before in
 
 -- LEFT part-put-text-start : tie.Need-slice-bounds-put-text-start
 -- LEFT part-put-text-start c = search rules
--- LEFT 
+-- LEFT
 
 -- LEFT part-put-text-end : tie.Need-slice-bounds-put-text-end
 -- LEFT part-put-text-end c = search rules
--- LEFT 
+-- LEFT
 
 pub put_text-requires : goal.put_text-requires
 put_text-requires c = let b19 = b14.before.before.before.before.before in

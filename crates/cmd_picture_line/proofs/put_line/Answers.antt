@@ -16,7 +16,7 @@ put_groups-a-requires c =
 
 -- LEFT slice-aggregate-put-text : tie.Need-slice-aggregate-put-text
 -- LEFT slice-aggregate-put-text c = search rules
--- LEFT 
+-- LEFT
 
 pub put_text-requires : goal.put_text-requires
 put_text-requires c =

@@ -10,8 +10,8 @@ use borrow.Author.Rules.{rules}
 use Rattle.cmd_read_order.proofs.set.Goals as goal
 
 pub returns-then-bad-order : goal.returns-then-bad-order
-returns-then-bad-order c = let a = c.args in 
-    let bad = c.first_bad_entry-bad.ensures in 
+returns-then-bad-order c = let a = c.args in
+    let bad = c.first_bad_entry-bad.ensures in
     let told = c.refused.ensures.0 ∙ c.refuse.ensures ∙ ap (refusal 6) bad in
     rw c.refused.ensures.1 (set_refused a.order.now a.bits.now (λ e. c.if-bad-order.true (bad ∙ e)) told)
 
@@ -20,13 +20,13 @@ slice_bounds-setting_of_order-end-2 c = sym (length-take-le _ c.args.bits.now (o
 
 pub setting_of_order-entries-requires : goal.setting_of_order-entries-requires
 setting_of_order-entries-requires c = (
-      c.requires.0,
-      sym c.first_bad_entry-bad.ensures ∙ c.if-bad-order.false,
-      length-take-le _ c.args.bits.now (omega (arith, c.switches-w.ensures.1, c.requires.1)) ∙ c.switches-w.ensures.0,
-    )
+  c.requires.0,
+  sym c.first_bad_entry-bad.ensures ∙ c.if-bad-order.false,
+  length-take-le _ c.args.bits.now (omega (arith, c.switches-w.ensures.1, c.requires.1)) ∙ c.switches-w.ensures.0,
+)
 
 pub returns : goal.returns
-returns c = let a = c.args in 
+returns c = let a = c.args in
     let bad = sym c.first_bad_entry-bad.ensures ∙ c.if-bad-order.false in
-    let made = c.setting_of_order-entries.ensures in 
+    let made = c.setting_of_order-entries.ensures in
     set_accepted a.order.now a.bits.now bad c.switches-w.ensures.0 made.0 made.1 c.accept.ensures

@@ -10,7 +10,7 @@ use Rattle.cmd_settings.proofs.put_lines.Goals as goal
 
 -- LEFT slice-aggregate-put-number : tie.Need-slice-aggregate-put-number
 -- LEFT slice-aggregate-put-number c = search rules
--- LEFT 
+-- LEFT
 
 pub put_number-a-requires : goal.put_number-a-requires
 unfolding setting_lines
@@ -24,7 +24,7 @@ put_setting-b-requires c =
 
 -- LEFT slice-aggregate-put-number-2 : tie.Need-slice-aggregate-put-number-2
 -- LEFT slice-aggregate-put-number-2 c = search rules
--- LEFT 
+-- LEFT
 
 pub put_number-requires : goal.put_number-requires
 unfolding setting_lines

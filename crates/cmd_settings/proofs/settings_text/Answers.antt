@@ -12,7 +12,7 @@ use borrow.Author.Rules.{rules}
 use Rattle.cmd_settings.proofs.settings_text.Goals as goal
 
 pub put_refusal-requires : goal.put_refusal-requires
-put_refusal-requires c = let a = c.order_setting-set.result.answer in 
+put_refusal-requires c = let a = c.order_setting-set.result.answer in
     omega (arith, refusal_fits a.number a.place (omega arith) (omega arith), c.well_formed)
 
 pub returns-then-answer-ne0 : goal.returns-then-answer-ne0
@@ -27,13 +27,13 @@ slice_bounds-bits-end c = let set = report_outcome _ _ c.order_setting-set.ensur
     bits_there _ _ set c.if-answer-ne0.false c.switches-w.ensures.0
 
 pub slice_bounds-put_lines-end-2 : goal.slice_bounds-put_lines-end-2
-slice_bounds-put_lines-end-2 c = let made = c.order_setting-set in 
+slice_bounds-put_lines-end-2 c = let made = c.order_setting-set in
     let there = bits_there _ _ (report_outcome _ _ made.ensures) c.if-answer-ne0.false c.switches-w.ensures.0 in
     sym (length-take-le _ made.new.bits.0 there)
 
 pub put_lines-requires : goal.put_lines-requires
-put_lines-requires c = let made = c.order_setting-set in 
-    let w = c.switches-w in 
+put_lines-requires c = let made = c.order_setting-set in
+    let w = c.switches-w in
     let few = places_few_lem _ _ (report_outcome _ _ made.ensures) c.if-answer-ne0.false in
     omega (
       arith,
@@ -44,6 +44,6 @@ put_lines-requires c = let made = c.order_setting-set in
     )
 
 pub returns : goal.returns
-returns c = let made = c.order_setting-set.ensures in 
-    let yes = c.if-answer-ne0.false in 
+returns c = let made = c.order_setting-set.ensures in
+    let yes = c.if-answer-ne0.false in
     prints _ (prints_lines _ _ made yes c.switches-w.ensures.0) c.put_lines.ensures

@@ -26,5 +26,5 @@ slice_bounds-write_sheet-end c = let set = report_outcome _ _ c.order_setting-se
 
 pub returns : goal.returns
 returns c = let set = report_outcome _ _ c.order_setting-set.ensures in
-    let w = c.switches-w.ensures in 
+    let w = c.switches-w.ensures in
     sheet_written _ _ c.args.out.now set c.if-read-ne0.false w.0 w.1 (search rules) c.write_sheet.ensures

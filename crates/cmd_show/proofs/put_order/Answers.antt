@@ -7,11 +7,11 @@ use Rattle.cmd_show.proofs.put_order.Goals as goal
 
 -- LEFT slice-aggregate-put-text : tie.Need-slice-aggregate-put-text
 -- LEFT slice-aggregate-put-text c = search rules
--- LEFT 
+-- LEFT
 
 -- LEFT slice-aggregate-put-text-2 : tie.Need-slice-aggregate-put-text-2
 -- LEFT slice-aggregate-put-text-2 c = search rules
--- LEFT 
+-- LEFT
 
 pub put_text-requires : goal.put_text-requires
 put_text-requires c =

@@ -24,17 +24,17 @@ put_order-a-requires c = omega (arith, c.requires, length-take c.args.n c.order_
 
 pub put_pictured-requires : goal.put_pictured-requires
 put_pictured-requires c = (
-      c.requires.2,
-      c.requires.3,
-      omega (
-        arith,
-        c.requires.0,
-        c.requires.4,
-        c.put_order-a.ensures.1,
-        c.put_order-a.auto,
-        length-take c.args.n c.order_of_setting.new.order.0,
-      ),
-    )
+  c.requires.2,
+  c.requires.3,
+  omega (
+    arith,
+    c.requires.0,
+    c.requires.4,
+    c.put_order-a.ensures.1,
+    c.put_order-a.auto,
+    length-take c.args.n c.order_of_setting.new.order.0,
+  ),
+)
 
 pub returns : goal.returns
 returns c = rest_put c.args.n c.args.bits.now _

@@ -7,7 +7,7 @@ use Rattle.cmd_show.proofs.put_setting.Goals as goal
 
 -- LEFT slice-aggregate-put-number : tie.Need-slice-aggregate-put-number
 -- LEFT slice-aggregate-put-number c = search rules
--- LEFT 
+-- LEFT
 
 pub put_number-a-requires : goal.put_number-a-requires
 put_number-a-requires c = omega (arith, c.requires.4, places-line c.args.n c.requires.0)

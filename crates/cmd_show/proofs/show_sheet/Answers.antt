@@ -18,8 +18,8 @@ pub slice_bounds-put_setting-end-2 : goal.slice_bounds-put_setting-end-2
 slice_bounds-put_setting-end-2 c = sym (length-take-le _ _ (setting_room _ _ c.read_setting-read.ensures c.read-1.given.1))
 
 pub put_setting-requires : goal.put_setting-requires
-put_setting-requires c = let R = c.read_setting-read.ensures in 
-    let t = c.read-1.given.1 in 
+put_setting-requires c = let R = c.read_setting-read.ensures in
+    let t = c.read-1.given.1 in
     (setting_few _ _ R t, setting_fits _ _ R t, setting-count _ _ R t, setting_are_bits _ _ R t, omega arith)
 
 pub returns : goal.returns

@@ -11,7 +11,7 @@ use Rattle.cmd_text.proofs.put_bits.Goals as goal
 
 -- LEFT slice-aggregate-put-text : tie.Need-slice-aggregate-put-text invariant-loop decreases-loop
 -- LEFT slice-aggregate-put-text c = search rules
--- LEFT 
+-- LEFT
 
 pub put_text-requires : goal.put_text-requires
 put_text-requires c = rw (bits_none _ c.if-bits-eq0.true) at c.requires

@@ -14,7 +14,7 @@ put_decimal-b-requires c = room_second (decimal c.args.v) (text "\n") c.put_text
 
 -- LEFT slice-aggregate-put-text : tie.Need-slice-aggregate-put-text
 -- LEFT slice-aggregate-put-text c = search rules
--- LEFT 
+-- LEFT
 
 pub put_text-requires : goal.put_text-requires
 put_text-requires c = room_third (decimal c.args.v) (text "\n") c.put_text-a.ensures c.requires c.put_decimal-b.ensures

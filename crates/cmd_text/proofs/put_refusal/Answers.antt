@@ -9,7 +9,7 @@ use Rattle.cmd_text.proofs.put_refusal.Goals as goal
 
 -- LEFT slice-aggregate-put-text : tie.Need-slice-aggregate-put-text
 -- LEFT slice-aggregate-put-text c = search rules
--- LEFT 
+-- LEFT
 
 pub put_text-a-requires : goal.put_text-a-requires
 unfolding refusal_line
@@ -23,7 +23,7 @@ put_decimal-b-requires c =
 
 -- LEFT slice-aggregate-put-number : tie.Need-slice-aggregate-put-number
 -- LEFT slice-aggregate-put-number c = search rules
--- LEFT 
+-- LEFT
 
 pub put_number-requires : goal.put_number-requires
 unfolding refusal_line

@@ -8,7 +8,7 @@ use Rattle.cmd_text.proofs.put_setting.Goals as goal
 
 -- LEFT slice-aggregate-put-text : tie.Need-slice-aggregate-put-text
 -- LEFT slice-aggregate-put-text c = search rules
--- LEFT 
+-- LEFT
 
 pub put_text-a-requires : goal.put_text-a-requires
 put_text-a-requires c = room_first c.args.out.now c.args.at (text "setting ") (bits_text c.args.bits.now ++ text "\n") c.requires
@@ -18,7 +18,7 @@ put_bits-end-requires c = room_second (bits_text c.args.bits.now) (text "\n") c.
 
 -- LEFT slice-aggregate-put-text-2 : tie.Need-slice-aggregate-put-text-2
 -- LEFT slice-aggregate-put-text-2 c = search rules
--- LEFT 
+-- LEFT
 
 pub put_text-requires : goal.put_text-requires
 put_text-requires c = room_third (bits_text c.args.bits.now) (text "\n") c.put_text-a.ensures c.requires c.put_bits-end.ensures

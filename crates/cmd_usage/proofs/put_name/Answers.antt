@@ -6,35 +6,35 @@ use Rattle.cmd_usage.proofs.put_name.Goals as goal
 
 -- LEFT slice-aggregate-put-text : tie.Need-slice-aggregate-put-text
 -- LEFT slice-aggregate-put-text c = search rules
--- LEFT 
+-- LEFT
 
 -- LEFT slice-aggregate-put-text-2 : tie.Need-slice-aggregate-put-text-2
 -- LEFT slice-aggregate-put-text-2 c = search rules
--- LEFT 
+-- LEFT
 
 -- LEFT slice-aggregate-put-text-3 : tie.Need-slice-aggregate-put-text-3
 -- LEFT slice-aggregate-put-text-3 c = search rules
--- LEFT 
+-- LEFT
 
 -- LEFT slice-aggregate-put-text-4 : tie.Need-slice-aggregate-put-text-4
 -- LEFT slice-aggregate-put-text-4 c = search rules
--- LEFT 
+-- LEFT
 
 -- LEFT slice-aggregate-put-text-5 : tie.Need-slice-aggregate-put-text-5
 -- LEFT slice-aggregate-put-text-5 c = search rules
--- LEFT 
+-- LEFT
 
 -- LEFT slice-aggregate-put-text-6 : tie.Need-slice-aggregate-put-text-6
 -- LEFT slice-aggregate-put-text-6 c = search rules
--- LEFT 
+-- LEFT
 
 -- LEFT slice-aggregate-put-text-7 : tie.Need-slice-aggregate-put-text-7
 -- LEFT slice-aggregate-put-text-7 c = search rules
--- LEFT 
+-- LEFT
 
 -- LEFT slice-aggregate-put-text-8 : tie.Need-slice-aggregate-put-text-8
 -- LEFT slice-aggregate-put-text-8 c = search rules
--- LEFT 
+-- LEFT
 
 pub returns-in-Draw : goal.returns-in-Draw
 returns-in-Draw c = (rw c.enum_told-1.given.1 c.put_text.ensures, omega (arith, c.put_text.ensures.place))

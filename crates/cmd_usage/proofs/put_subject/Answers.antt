@@ -8,7 +8,7 @@ use Rattle.cmd_usage.proofs.put_subject.Goals as goal
 
 -- LEFT slice-aggregate-put-text : tie.Need-slice-aggregate-put-text
 -- LEFT slice-aggregate-put-text c = search rules
--- LEFT 
+-- LEFT
 
 pub returns : goal.returns
 returns c =

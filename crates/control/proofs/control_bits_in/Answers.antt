@@ -18,13 +18,13 @@ use Rattle.control.proofs.Asked.{refused, taken}
 use Rattle.control.proofs.control_bits_in.Goals as goal
 
 pub returns-then-n-gt-MOST_PLACES : goal.returns-then-n-gt-MOST_PLACES
-returns-then-n-gt-MOST_PLACES c = let a = c.args in 
+returns-then-n-gt-MOST_PLACES c = let a = c.args in
     let qs = set_questions a.order.now a.bits.now a.log.now in
     refused a.order.now a.bits.now a.log.now (wiring_of a.t) 1 0
     (first_no_lem 0 qs (few_no (length a.order.now) c.if-n-gt-MOST_PLACES.true)) c.refuse.ensures refl refl
 
 pub returns-then-bits-switches : goal.returns-then-bits-switches
-returns-then-bits-switches c = let a = c.args in 
+returns-then-bits-switches c = let a = c.args in
     let e : length a.bits.now ≡ W (length a.order.now) → ⊥ = λ q. c.if-bits-switches.true (q ∙ sym c.switches.ensures.0) in
     let n = length a.order.now in
     let qs = set_questions a.order.now a.bits.now a.log.now in
@@ -35,7 +35,7 @@ pub overflow_mul-entries : goal.overflow_mul-entries
 overflow_mul-entries c = omega (arith, c.entries.ensures.1)
 
 pub returns-then-log-entries : goal.returns-then-log-entries
-returns-then-log-entries c = let a = c.args in 
+returns-then-log-entries c = let a = c.args in
     let n = length a.order.now in
     let few = few_yes n c.if-n-gt-MOST_PLACES.false in
     let count = count_yes n a.bits.now (c.if-bits-switches.false ∙ c.switches.ensures.0) in
@@ -44,8 +44,8 @@ returns-then-log-entries c = let a = c.args in
     (first_no_lem 2 (set_questions a.order.now a.bits.now a.log.now) (few, (count, short))) c.refuse-then-log-entries.ensures refl refl
 
 pub returns-then-bad-n : goal.returns-then-bad-n
-returns-then-bad-n c = let f = c.first_bad_entry-bad.ensures in 
-    let a = c.args in 
+returns-then-bad-n c = let f = c.first_bad_entry-bad.ensures in
+    let a = c.args in
     let n = length a.order.now in
     let few = few_yes n c.if-n-gt-MOST_PLACES.false in
     let count = count_yes n a.bits.now (c.if-bits-switches.false ∙ c.switches.ensures.0) in
@@ -56,7 +56,7 @@ returns-then-bad-n c = let f = c.first_bad_entry-bad.ensures in
     (c.refuse-then-bad-n.ensures ∙ ap (refusal 6) f) refl refl
 
 pub set_order_in-requires : goal.set_order_in-requires
-set_order_in-requires c = let a = c.args in 
+set_order_in-requires c = let a = c.args in
     let n : length a.order.now ≤ 1024 = c.if-n-gt-MOST_PLACES.false in
     let b : length a.bits.now ≡ W (length a.order.now) = c.if-bits-switches.false ∙ c.switches.ensures.0 in (
       n,
@@ -67,8 +67,8 @@ set_order_in-requires c = let a = c.args in
     )
 
 pub returns : goal.returns
-returns c = let s = c.set_order_in in 
-    let a = c.args in 
+returns c = let s = c.set_order_in in
+    let a = c.args in
     let n = length a.order.now in
     let few = few_yes n c.if-n-gt-MOST_PLACES.false in
     let count = count_yes n a.bits.now (c.if-bits-switches.false ∙ c.switches.ensures.0) in

@@ -11,11 +11,11 @@ overflow_add-h c = omega (arith, small c.requires.1 c.requires.0)
 
 pub act_on-requires : goal.act_on-requires
 act_on-requires c = let s = c.before.before.before.before.before.before.before.before.before.before.before in (
-      s.requires.0,
-      s.requires.1,
-      s.requires.2,
-      omega arith,
-      search rules,
-      rw c.before.before.before.before.before.last-bits.ensures
-          (each_below 2 _ _ _ s.args.bits.now s.requires.4 (λ i x h. omega arith)),
-    )
+  s.requires.0,
+  s.requires.1,
+  s.requires.2,
+  omega arith,
+  search rules,
+  rw c.before.before.before.before.before.last-bits.ensures
+      (each_below 2 _ _ _ s.args.bits.now s.requires.4 (λ i x h. omega arith)),
+)

@@ -19,8 +19,8 @@ write_entry-requires c = let z = small c.requires.1 c.requires.0 in
     (c.requires.4, omega (arith, z), omega (arith, z), c.requires.6)
 
 pub returns : goal.returns
-returns c = let x = c.act_on.ensures in 
-    let a = c.args in 
+returns c = let x = c.act_on.ensures in
+    let a = c.args in
     let n = up a.net.size - 1 in (
       went_one 4 a.net.start a.net.size a.w.b n a.w c.passed.result a.log.now _
           (ap (λ (r : Walk). r.e) c.passed.ensures)

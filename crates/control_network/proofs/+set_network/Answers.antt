@@ -126,7 +126,7 @@ bottomed t z =
 
 -- ---- the needs
 pub returns-then-net-lt2 : goal.returns-then-net-lt2
-returns-then-net-lt2 t c = let a = c.args in 
+returns-then-net-lt2 t c = let a = c.args in
     let h : a.net.size < 2 = c.if-net-lt2.true in
     let wiring = wiring_of a.net.topology in (
       went_as (entries_none wiring (place_of a.net) a.net.size a.w.b h) (sym (W_none a.net.size h))
@@ -136,7 +136,7 @@ returns-then-net-lt2 t c = let a = c.args in
     )
 
 pub enter-x-requires : goal.enter-x-requires
-enter-x-requires t c = let p = c.requires.1 in 
+enter-x-requires t c = let p = c.requires.1 in
     let two : 2 ≤ c.args.net.size = c.if-net-lt2.false in
     (two, p.0, p.1, p.2, p.3)
 
@@ -154,7 +154,7 @@ set_network-y-requires t c = let s = s-of t x in
     let p = s.pre.1 in
     let two : 2 ≤ a.net.size = c.if-net-lt2.false in
     let D = entered t x in
-    let h = c.top in 
+    let h = c.top in
     let size : h.result.size ≡ up a.net.size = h.ensures.size in (
       omega (arith, two, s.pre.0, size),
       (
@@ -185,8 +185,8 @@ set_network-z-requires t c = let x = x-of t y in
     let two : 2 ≤ a.net.size = x.before.before.before.before.before.before.before.if1.left in
     let D = entered t x in
     let D₂ = topped t y in
-    let top = c.top.ensures in 
-    let h = c.bottom in 
+    let top = c.top.ensures in
+    let h = c.bottom in
     let size : h.result.size ≡ down a.net.size = h.ensures.size in (
       omega (arith, two, s.pre.0, size),
       (
@@ -209,7 +209,7 @@ step6-requires t c = let y = y_of t z in
     let p = s.pre.1 in
     let two : 2 ≤ a.net.size = x.before.before.before.before.before.before.before.if1.left in
     let top = y.before.before.top.ensures in
-    let bottom = c.bottom.ensures in 
+    let bottom = c.bottom.ensures in
     asks_six a.net a.w a.vals.now a.trails.now a.pairs.now a.bits.now a.log.now two p.0 p.1 p.2 p.3
     (entered t x) top (topped t y) bottom (bottomed t z)
 
@@ -248,7 +248,7 @@ returns t c = let y = y_of t z in
     let p = s.pre.1 in
     let two : 2 ≤ a.net.size = x.before.before.before.before.before.before.before.if1.left in
     let top = y.before.before.top.ensures in
-    let bottom = c.bottom.ensures in 
+    let bottom = c.bottom.ensures in
     let q = c.step6.ensures in (
       whole_log a.net a.w a.vals.now a.trails.now a.pairs.now a.bits.now a.log.now two p.0 p.1 p.2
           p.3 (entered t x) top (topped t y) bottom (bottomed t z) q.0 (λ ms. q.1 ms a.w.b),

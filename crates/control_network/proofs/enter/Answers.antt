@@ -19,10 +19,10 @@ pub input_steps-x-requires : goal.input_steps-x-requires
 input_steps-x-requires c = (c.requires.0, c.requires.1, c.requires.2, c.requires.3)
 
 pub step5-requires : goal.step5-requires
-step5-requires c = let a = c.args in 
-    let x = c.input_steps-x in 
-    let R = c.requires.1 in 
-    let far = R.values_room.inside.apart in 
+step5-requires c = let a = c.args in
+    let x = c.input_steps-x in
+    let R = c.requires.1 in
+    let far = R.values_room.inside.apart in
     let few = (small R.values_room c.requires.0).0 in
     let before : State = unmarked 512 a.vals.now a.trails.now a.bits.now a.w in
     let is = x.ensures.1 512 (omega (arith, few)) in (
@@ -44,8 +44,8 @@ step5-requires c = let a = c.args in
     )
 
 pub returns : goal.returns
-returns c = let a = c.args in 
-    let x = c.input_steps-x in 
+returns c = let a = c.args in
+    let x = c.input_steps-x in
     let y = c.step5 in (
       went_as refl (omega arith)
           (went_then (omega (arith, c.requires.1.log_room, E_parts a.net.start a.net.size a.w.b c.requires.0))

@@ -24,7 +24,7 @@ use Rattle.control_network.proofs.Entries.{went_none, went_then, went_as, input_
 use Rattle.control_network.proofs.input_steps.Goals as goal
 
 pub returns-then-net-lt3 : goal.returns-then-net-lt3
-returns-then-net-lt3 c = let a = c.args in 
+returns-then-net-lt3 c = let a = c.args in
     let h : a.net.size < 3 = c.if-net-lt3.true in (
       went_as (input_none a.net.start a.net.size a.w.b h) (omega (arith, c.requires.0)) (went_none a.w a.log.now),
       λ j l. steps_none (wiring_of a.net.topology) (subnetwork_of a.net a.w.b)
@@ -89,7 +89,7 @@ returns c = let at30 = at26.before.before.before.before in
     let a = s.args in
     let h : 3 ≤ a.net.size = at23.if1.false in
     let x = at17.settle-inputs in
-    let y = c.step4 in 
+    let y = c.step4 in
     let k = up a.net.size in
     let wiring = wiring_of a.net.topology in
     let b : x.result.b ≡ a.w.b = omega (arith, x.ensures.0.bit) in (

@@ -20,32 +20,32 @@ use Rattle.control_network.proofs.round.Goals as goal
 
 pub step1-x-requires : goal.step1-x-requires
 step1-x-requires c = let H = c.requires.7 in (
-      c.requires.0,
-      c.requires.1,
-      c.requires.2,
-      omega arith,
-      c.requires.5,
-      H.f_below,
-      H.c_below,
-      rw H.any_is
-          (digit_small (not (none_in (up c.args.net.size) c.args.pairs.now))),
-      c.requires.8,
-    )
+  c.requires.0,
+  c.requires.1,
+  c.requires.2,
+  omega arith,
+  c.requires.5,
+  H.f_below,
+  H.c_below,
+  rw H.any_is
+      (digit_small (not (none_in (up c.args.net.size) c.args.pairs.now))),
+  c.requires.8,
+)
 
 pub step2-y-requires : goal.step2-y-requires
 step2-y-requires c = let x = c.step1-x in (
-      c.requires.0,
-      c.requires.1,
-      c.requires.2,
-      omega (arith, c.requires.4, x.ensures.0.count),
-      c.requires.6,
-      x.ensures.2.2,
-      omega (arith, c.requires.8, x.ensures.0.bit),
-    )
+  c.requires.0,
+  c.requires.1,
+  c.requires.2,
+  omega (arith, c.requires.4, x.ensures.0.count),
+  c.requires.6,
+  x.ensures.2.2,
+  omega (arith, c.requires.8, x.ensures.0.bit),
+)
 
 pub step3-requires : goal.step3-requires
-step3-requires c = let x = c.step1-x in 
-    let y = c.step2-y in 
+step3-requires c = let x = c.step1-x in
+    let y = c.step2-y in
     let H = c.requires.7 in (
       c.requires.0,
       c.requires.1,
@@ -64,13 +64,13 @@ step3-requires c = let x = c.step1-x in
 
 pub returns : goal.returns
 unfolding rounds_of
-returns c = let a = c.args in 
-    let p = c.requires in 
-    let x = c.step1-x in 
-    let y = c.step2-y in 
-    let z = c.step3 in 
-    let o = a.net.start in 
-    let m = a.net.size in 
+returns c = let a = c.args in
+    let p = c.requires in
+    let x = c.step1-x in
+    let y = c.step2-y in
+    let z = c.step3 in
+    let o = a.net.start in
+    let m = a.net.size in
     let k = up m in
     let xb : x.result.b ≡ a.w.b = omega (arith, x.ensures.0.bit) in
     let yb : y.result.b ≡ a.w.b = omega (arith, xb, y.ensures.0.bit) in (

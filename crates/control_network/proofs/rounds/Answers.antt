@@ -23,7 +23,7 @@ unfolding rounds rounds_of
 loop-i-init c = ((omega arith, refl, refl), went_none c.args.w c.args.log.now, c.requires.7, λ place vs ts ms bs bit G long. refl)
 
 pub round-x-requires : goal.round-x-requires
-round-x-requires c = let l = c.loop-i in 
+round-x-requires c = let l = c.loop-i in
     let i : l.i < up c.args.net.size = c.loop-i-test.true in (
       c.requires.0,
       c.requires.1,
@@ -44,11 +44,11 @@ round-x-requires c = let l = c.loop-i in
     )
 
 pub loop-i-preserved : goal.loop-i-preserved
-loop-i-preserved c = let l = c.loop-i in 
-    let r = c.round-x in 
+loop-i-preserved c = let l = c.loop-i in
+    let r = c.round-x in
     let i : l.i < up c.args.net.size = c.loop-i-test.true in
-    let o = c.args.net.start in 
-    let m = c.args.net.size in 
+    let o = c.args.net.start in
+    let m = c.args.net.size in
     let b : l.x.b ≡ c.args.w.b = omega (arith, l.invariant.1.bit) in (
       (omega (arith, i), r.auto.pairs ∙ l.invariant.0.1, r.auto.log ∙ l.invariant.0.2),
       went_as (rounds_more l.i o m c.args.w.b) refl
@@ -70,8 +70,8 @@ pub shape_of-log : goal.shape_of-log
 shape_of-log c = c.loop-i.invariant.0.2
 
 pub returns : goal.returns
-returns c = let l = c.loop-i in 
-    let a = c.args in 
+returns c = let l = c.loop-i in
+    let a = c.args in
     let e : l.i ≡ up a.net.size = omega arith in (
       rw (← e) l.invariant.1,
       l.invariant.2,

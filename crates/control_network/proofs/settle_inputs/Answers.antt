@@ -33,7 +33,7 @@ rounds-x-requires c = let s = c.before.before.before.before.before.before.before
     let m = a.net.size in
     let u = c.before.before.before.before.before.before.unmark in
     let g = c.before.before.before.before.before.before.before.before.gather in
-    let w = c.unmarked in 
+    let w = c.unmarked in
     let z = small s.requires.1 s.requires.0 in
     let few : up m ≤ 512 = omega (arith, z) in (
       s.requires.0,
@@ -75,7 +75,7 @@ returns c = let at25 = at13.before.before.before.before.before.before.before.bef
     let s = at25 in
     let a = s.args in
     let k = up a.net.size in
-    let v = c.give_bits in 
+    let v = c.give_bits in
     let r = c.before.before.before.before.before.before.before.before.before.rounds in
     let w = c.before.before.before.before.before.before.before.before.before.before.unmarked in
     let u = at16.unmark in

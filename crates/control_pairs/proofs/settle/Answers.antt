@@ -20,7 +20,7 @@ returns-then-r-lt16 c = absurd (omega arith)
 
 pub loop-i-init : goal.loop-i-init
 unfolding first_bad_from
-loop-i-init c = let a = c.args in 
+loop-i-init c = let a = c.args in
     ((omega arith, refl, omega arith, omega arith), store_none a.pairs.now a.p (a.p + 1024 + 2048 * a.bit), refl)
 
 pub overflow_cast-c : goal.overflow_cast-c
@@ -31,18 +31,18 @@ pick-y-requires c = byte_small (eqb c.loop-i.c c.args.p)
 
 pub least-low-requires : goal.least-low-requires
 unfolding Numbered
-least-low-requires c = let l = c.loop-i in 
-    let a = c.args in 
+least-low-requires c = let l = c.loop-i in
+    let a = c.args in
     let y = settled-final a.k a.p a.bit a.pairs.now c.requires.1 c.requires.2 c.requires.4 c.requires.5 l.pairs l.c l.i c.pick-y.result l.invariant.0.2 (omega arith) l.invariant.1 c.pick-y.ensures in
     (omega arith, omega (arith, y, numbered_after a.k a.p a.bit a.pairs.now c.requires.1 c.requires.2 c.requires.4 c.requires.5 l.i (omega arith)))
 
 pub loop-i-preserved : goal.loop-i-preserved
 unfolding Numbered
-loop-i-preserved c = let y = c.pick-y in 
-    let l = c.loop-i in 
-    let a = c.args in 
-    let k = a.k in 
-    let i = l.i in 
+loop-i-preserved c = let y = c.pick-y in
+    let l = c.loop-i in
+    let a = c.args in
+    let k = a.k in
+    let i = l.i in
     let fin = final k a.p a.bit a.pairs.now c.requires.1 c.requires.2 c.requires.4 c.requires.5 in
     let picked = settled-pick k a.p a.bit a.pairs.now c.requires.1 c.requires.2 c.requires.4 c.requires.5 l.pairs l.c i y.result l.invariant.0.2 l.invariant.1 y.ensures in
     let at = settled-final k a.p a.bit a.pairs.now c.requires.1 c.requires.2 c.requires.4 c.requires.5 l.pairs l.c i y.result l.invariant.0.2 (omega arith) l.invariant.1 y.ensures in
@@ -59,8 +59,8 @@ pub shape_of-pairs : goal.shape_of-pairs
 shape_of-pairs c = c.loop-i.invariant.0.1
 
 pub returns : goal.returns
-returns c = let l = c.loop-i in 
-    let a = c.args in 
+returns c = let l = c.loop-i in
+    let a = c.args in
     let e : l.i ≡ sixteens a.k = omega arith in
     let s : l.pairs ≡ store (λ j. j) (sixteens a.k) a.p (a.p + 1024 + 2048 * a.bit) a.pairs.now = rw (← e) l.invariant.1 in
     record {

@@ -12,7 +12,7 @@ pub loop-i-init : goal.loop-i-init
 loop-i-init c = ((omega arith, omega arith, refl), λ j l. absurd (omega arith))
 
 pub loop-i-preserved : goal.loop-i-preserved
-loop-i-preserved c = let l = c.loop-i in 
+loop-i-preserved c = let l = c.loop-i in
     ((omega arith, omega arith, simp length-set l.invariant.0.2), unmarked_more l.pairs l.c l.i l.invariant.0.1 (omega arith) l.invariant.1)
 
 pub shape_of-pairs : goal.shape_of-pairs

@@ -14,18 +14,18 @@ use Rattle.control_rings.proofs.Stepping.{look_small, step1_is}
 use Rattle.control_rings.proofs.step1.Goals as goal
 
 pub look_in-g-requires : goal.look_in-g-requires
-look_in-g-requires c = let a = c.args in 
-    let n = c.first_of-last in 
+look_in-g-requires c = let a = c.args in
+    let n = c.first_of-last in
     let last : n.result < 32768 = rw n.ensures
     (first_below a.net.topology (up a.net.size) (up a.net.size - 1) (omega (arith, c.requires.1))) in
     (omega arith, omega arith, rw c.pick-f.ensures (pick-below (eqb a.w.any 1) c.requires.5 last))
 
 pub returns : goal.returns
-returns c = let g = c.look_in-g in 
-    let q = c.pick-c in 
-    let p = c.pick-f in 
-    let n = c.first_of-last in 
-    let a = c.args in 
+returns c = let g = c.look_in-g in
+    let q = c.pick-c in
+    let p = c.pick-f in
+    let n = c.first_of-last in
+    let a = c.args in
     let last : n.result < 32768 = rw n.ensures
     (first_below a.net.topology (up a.net.size) (up a.net.size - 1) (omega (arith, c.requires.1))) in
     let f : p.result < 32768 = rw p.ensures (pick-below (eqb a.w.any 1) c.requires.5 last) in (

@@ -16,9 +16,9 @@ seek_in-s-requires c =
     (omega arith, omega arith, rw c.other_of.ensures (other-below c.args.net.topology _ _ (omega arith) c.requires.5), c.requires.4)
 
 pub returns : goal.returns
-returns c = let q = c.seek_in-s in 
-    let o = c.other_of in 
-    let a = c.args in 
+returns c = let q = c.seek_in-s in
+    let o = c.other_of in
+    let a = c.args in
     let small = other-below a.net.topology (up a.net.size) a.w.g (omega (arith, c.requires.1)) c.requires.5 in (
       went_one 2 a.net.start a.net.size a.w.b 0 a.w _ a.log.now _ (omega arith) (omega arith)
           c.write_entry.ensures,

@@ -15,11 +15,11 @@ use Rattle.control_rings.proofs.Stepping.{low_within, turned_small, turned_round
 use Rattle.control_rings.proofs.step3.Goals as goal
 
 pub overflow_sub-bit : goal.overflow_sub-bit
-overflow_sub-bit c = let a = c.args in 
+overflow_sub-bit c = let a = c.args in
     rw c.side_of-bit.ensures (omega (arith, digit_small ((wiring_of a.net.topology).dec (up a.net.size) a.w.s).1))
 
 pub settle-low-requires : goal.settle-low-requires
-settle-low-requires c = let p = c.pair_of-pair in 
+settle-low-requires c = let p = c.pair_of-pair in
     let w : p.result ≤ c.args.w.s = rw p.ensures
     (pair_within c.args.net.topology (up c.args.net.size) c.args.w.s) in
     let bit = turned_round c.side_of-bit.result
@@ -27,28 +27,28 @@ settle-low-requires c = let p = c.pair_of-pair in
     (omega arith, omega arith, c.requires.3, omega (arith, c.requires.6), bit.1, c.requires.5.numbered)
 
 pub below-requires : goal.below-requires
-below-requires c = let p = c.pair_of-pair in 
+below-requires c = let p = c.pair_of-pair in
     let w : p.result ≤ c.args.w.s = rw p.ensures
     (pair_within c.args.net.topology (up c.args.net.size) c.args.w.s) in
     (omega (arith, c.requires.6), omega (arith, c.requires.1))
 
 pub turn-requires : goal.turn-requires
 turn-requires c = (
-      omega (arith, c.requires.1),
-      omega (arith, c.requires.1, low_within c.settle-low.ensures),
-      c.requires.6,
-      c.requires.5.c_below,
-      omega (arith, c.requires.4, c.well_formed.1.1.0.0),
-    )
+  omega (arith, c.requires.1),
+  omega (arith, c.requires.1, low_within c.settle-low.ensures),
+  c.requires.6,
+  c.requires.5.c_below,
+  omega (arith, c.requires.4, c.well_formed.1.1.0.0),
+)
 
 pub returns : goal.returns
-returns c = let a = c.args in 
+returns c = let a = c.args in
     let k = up a.net.size in
     let few : k ≤ 512 = omega (arith, c.requires.1) in
-    let H = c.requires.5 in 
-    let T = c.settle-low in 
-    let p = c.pair_of-pair in 
-    let b = c.below in 
+    let H = c.requires.5 in
+    let T = c.settle-low in
+    let p = c.pair_of-pair in
+    let b = c.below in
     let bit = turned_round c.side_of-bit.result
     ((wiring_of c.args.net.topology).dec (up c.args.net.size) c.args.w.s).1 c.side_of-bit.ensures in
     let small = turned_small a.net.topology k T.result a.w.any a.w (omega arith) (omega (arith, low_within T.ensures))

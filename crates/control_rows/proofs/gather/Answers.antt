@@ -8,11 +8,11 @@ use Rattle.control_rows.specs.Rows.{Gathered}
 use Rattle.control_rows.proofs.gather.Goals as goal
 
 pub fill-requires : goal.fill-requires
-fill-requires c = let a = c.args in 
+fill-requires c = let a = c.args in
     (c.requires.0, search rules, λ i l. subst (λ x. a.o + i * x < length a.xs.now) c.if-apart-eq1.true (c.requires.1 i l))
 
 pub returns-then-apart-eq1 : goal.returns-then-apart-eq1
-returns-then-apart-eq1 c = let a = c.args in 
+returns-then-apart-eq1 c = let a = c.args in
     let x = c.fill in (
       subst (λ x. Gathered (λ i. a.o + i * x) a.m a.xs.now c.fill.new.row) (sym c.if-apart-eq1.true)
           x.ensures.0,

@@ -24,8 +24,8 @@ pub mask-requires : goal.mask-requires
 mask-requires c = byte_small (eqb c.loop-i.c _)
 
 pub loop-i-preserved : goal.loop-i-preserved
-loop-i-preserved c = let l = c.loop-i in 
-    let a = c.args in 
+loop-i-preserved c = let l = c.loop-i in
+    let a = c.args in
     let x = c.number in (
       (omega arith, omega arith),
       look_code a.row.now _ l.i l.c l.g x.result c.mask.result l.invariant.0.1 l.invariant.1 x.ensures x.type-inv
@@ -33,7 +33,7 @@ loop-i-preserved c = let l = c.loop-i in
     )
 
 pub returns : goal.returns
-returns c = let l = c.loop-i in 
-    let a = c.args in 
+returns c = let l = c.loop-i in
+    let a = c.args in
     let e : c.mask-past.result ≡ digit (not (ltb a.p a.m)) * 65535 = rw (c.mask-past.ensures, c.at_least.ensures) in
     look_all a.row.now a.m a.p c.mask-past.result _ l.g l.i (omega arith) (omega arith) e refl (omega arith) l.invariant.1

@@ -18,18 +18,18 @@ pub loop-i-init : goal.loop-i-init
 loop-i-init c = ((omega arith, omega arith), seek_none _ _)
 
 pub mask-requires : goal.mask-requires
-mask-requires c = let a = c.args in 
+mask-requires c = let a = c.args in
     byte_small (eqb (get_or a.row.now c.loop-i.i 0) a.a)
 
 pub most-best-requires : goal.most-best-requires
-most-best-requires c = let l = c.loop-i in 
-    let a = c.args in 
+most-best-requires c = let l = c.loop-i in
+    let a = c.args in
     let b = eqb (get_or a.row.now l.i 0) a.a in
     (rw (c.mask.ensures, under_test b l.c (omega arith)) (test_below b l.c 32768 (omega arith)), omega (arith, l.invariant.1.small))
 
 pub loop-i-preserved : goal.loop-i-preserved
-loop-i-preserved c = let l = c.loop-i in 
-    let a = c.args in 
+loop-i-preserved c = let l = c.loop-i in
+    let a = c.args in
     let b = eqb (get_or a.row.now l.i 0) a.a in (
       (omega arith, omega arith),
       rw c.most-best.ensures
@@ -47,7 +47,7 @@ pub pick-requires : goal.pick-requires
 pick-requires c = rw c.at_least-found.ensures (digit_small (not (ltb c.loop-i.best 1)))
 
 pub returns : goal.returns
-returns c = let l = c.loop-i in 
-    let a = c.args in 
+returns c = let l = c.loop-i in
+    let a = c.args in
     rw (c.pick.ensures, c.at_least-found.ensures)
     (seek_all a.row.now a.m a.a l.i l.best (omega arith) (omega arith) c.requires.3 l.invariant.1)

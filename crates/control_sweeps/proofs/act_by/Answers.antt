@@ -89,15 +89,15 @@ offset_bounds-trails-q-in-loop-i c = omega (arith, pair_here c.requires.0 c.loop
 
 pub bounds-trails-q-in-loop-i : goal.bounds-trails-q-in-loop-i
 bounds-trails-q-in-loop-i c = simp length-set (omega (
-      arith,
-      pair_here c.requires.1 c.loop-i.i c.loop-i-test.true,
-      c.loop-i.invariant.0.1.1,
-    ))
+  arith,
+  pair_here c.requires.1 c.loop-i.i c.loop-i-test.true,
+  c.loop-i.invariant.0.1.1,
+))
 
 pub loop-i-preserved : goal.loop-i-preserved
-loop-i-preserved c = let w = c.wide-s in 
-    let l = c.loop-i in 
-    let a = c.args in 
+loop-i-preserved c = let w = c.wide-s in
+    let l = c.loop-i in
+    let a = c.args in
     let at = stepped a.o a.step a.gap in
     let p = at (l.i, false) in
     let q = at (l.i, true) in (
@@ -117,6 +117,6 @@ pub shape_of-trails : goal.shape_of-trails
 shape_of-trails c = c.loop-i.invariant.0.1.1
 
 pub returns : goal.returns
-returns c = let l = c.loop-i in 
+returns c = let l = c.loop-i in
     let e : l.i ≡ c.args.n = omega arith in
     (rw (← e) l.invariant.1.0, rw (← e) l.invariant.1.1)

@@ -14,10 +14,10 @@ loop-i-init c = ((omega arith, refl), refl)
 
 pub loop-i-preserved : goal.loop-i-preserved
 loop-i-preserved c = let l = c.loop-i in (
-      (omega arith, simp length-set l.invariant.0.1),
-      each_step (λ j. j) (λ j x. 0) l.xs c.args.xs.now l.i
-          l.invariant.1,
-    )
+  (omega arith, simp length-set l.invariant.0.1),
+  each_step (λ j. j) (λ j x. 0) l.xs c.args.xs.now l.i
+      l.invariant.1,
+)
 
 pub shape_of-xs : goal.shape_of-xs
 shape_of-xs c = c.loop-i.invariant.0.1

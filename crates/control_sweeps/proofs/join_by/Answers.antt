@@ -33,7 +33,7 @@ pub bounds-vals-p : goal.bounds-vals-p
 bounds-vals-p c = omega (arith, here c.requires.1 c.loop-i.i (omega arith))
 
 pub value_of-requires : goal.value_of-requires
-value_of-requires c = let l = c.loop-i in 
+value_of-requires c = let l = c.loop-i in
     let a = c.args in (
       c.requires.0,
       ahead-below (net_of a.t a.o a.m a.apart)
@@ -58,8 +58,8 @@ pub overflow_add-i : goal.overflow_add-i
 overflow_add-i c = omega (arith, here c.requires.1 c.loop-i.i (omega arith))
 
 pub loop-i-preserved : goal.loop-i-preserved
-loop-i-preserved c = let l = c.loop-i in 
-    let a = c.args in 
+loop-i-preserved c = let l = c.loop-i in
+    let a = c.args in
     let same = still (net_of a.t a.o a.m a.apart) (λ j t. t / 2) l.trails a.trails.now l.i
     c.requires.1.inside.apart l.invariant.1.1 in (
       (omega arith, (simp length-set l.invariant.0.1.0, simp length-set l.invariant.0.1.1)),
@@ -79,6 +79,6 @@ pub shape_of-trails : goal.shape_of-trails
 shape_of-trails c = c.loop-i.invariant.0.1.1
 
 pub returns : goal.returns
-returns c = let l = c.loop-i in 
+returns c = let l = c.loop-i in
     let e : l.i ≡ c.args.m = omega arith in
     record { values_are = rw (← e) l.invariant.1.0; trails_are = rw (← e) l.invariant.1.1 }

@@ -25,7 +25,7 @@ pub bounds-trails-o : goal.bounds-trails-o
 bounds-trails-o c = omega (arith, pair_here c.requires.0 c.loop-i.i (omega arith))
 
 pub loop-i-preserved : goal.loop-i-preserved
-loop-i-preserved c = let l = c.loop-i in 
+loop-i-preserved c = let l = c.loop-i in
     let a = c.args in (
       (omega arith, simp length-set l.invariant.0.1),
       each_step (λ j. a.b + j) (λ j x. get_or a.trails.now (a.o + j * a.step) 0 % 2)

@@ -34,8 +34,8 @@ pub bounds-trails-p : goal.bounds-trails-p
 bounds-trails-p c = omega (arith, here c.requires.2 c.loop-i.i (omega arith))
 
 pub overflow_mul-trails : goal.overflow_mul-trails
-overflow_mul-trails c = let l = c.loop-i in 
-    let a = c.args in 
+overflow_mul-trails c = let l = c.loop-i in
+    let a = c.args in
     omega (
       arith,
       ahead-below (net_of a.t a.o a.m a.apart)
@@ -44,7 +44,7 @@ overflow_mul-trails c = let l = c.loop-i in
     )
 
 pub side_of-requires : goal.side_of-requires
-side_of-requires c = let l = c.loop-i in 
+side_of-requires c = let l = c.loop-i in
     let a = c.args in (
       c.requires.0,
       ahead-below (net_of a.t a.o a.m a.apart) (λ j v. ((wiring_of a.t).dec a.k v).0) l.vals a.vals.now
@@ -52,8 +52,8 @@ side_of-requires c = let l = c.loop-i in
     )
 
 pub overflow_add-trails : goal.overflow_add-trails
-overflow_add-trails c = let l = c.loop-i in 
-    let a = c.args in 
+overflow_add-trails c = let l = c.loop-i in
+    let a = c.args in
     rw c.side_of.ensures (omega (
       arith,
       ahead-below (net_of a.t a.o a.m a.apart)
@@ -70,7 +70,7 @@ pub bounds-trails-p-in-loop-i : goal.bounds-trails-p-in-loop-i
 bounds-trails-p-in-loop-i c = omega (arith, here c.requires.2 c.loop-i.i (omega arith))
 
 pub pair_of-requires : goal.pair_of-requires
-pair_of-requires c = let l = c.loop-i in 
+pair_of-requires c = let l = c.loop-i in
     let a = c.args in (
       c.requires.0,
       ahead-below (net_of a.t a.o a.m a.apart) (λ j v. ((wiring_of a.t).dec a.k v).0) l.vals a.vals.now
@@ -87,8 +87,8 @@ pub overflow_add-i : goal.overflow_add-i
 overflow_add-i c = omega (arith, here c.requires.1 c.loop-i.i (omega arith))
 
 pub loop-i-preserved : goal.loop-i-preserved
-loop-i-preserved c = let l = c.loop-i in 
-    let a = c.args in 
+loop-i-preserved c = let l = c.loop-i in
+    let a = c.args in
     let same = still (net_of a.t a.o a.m a.apart) (λ j v. ((wiring_of a.t).dec a.k v).0) l.vals a.vals.now l.i
     c.requires.1.inside.apart l.invariant.1.0 in (
       (omega arith, (simp length-set l.invariant.0.1.0, simp length-set l.invariant.0.1.1)),
@@ -109,6 +109,6 @@ pub shape_of-trails : goal.shape_of-trails
 shape_of-trails c = c.loop-i.invariant.0.1.1
 
 pub returns : goal.returns
-returns c = let l = c.loop-i in 
+returns c = let l = c.loop-i in
     let e : l.i ≡ c.args.m = omega arith in
     record { values_are = rw (← e) l.invariant.1.0; trails_are = rw (← e) l.invariant.1.1 }

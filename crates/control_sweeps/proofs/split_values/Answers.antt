@@ -9,7 +9,7 @@ use Rattle.control_sweeps.specs.Tables.{Covers, Within, Parted}
 use Rattle.control_sweeps.proofs.split_values.Goals as goal
 
 pub split_by-requires : goal.split_by-requires
-split_by-requires c = let a = c.args in 
+split_by-requires c = let a = c.args in
     let e = net_as a.net 1 c.if-apart-eq1.true in (
       c.requires.0,
       subst (λ (n : Net). Covers n a.vals.now) e c.requires.1,
@@ -20,7 +20,7 @@ split_by-requires c = let a = c.args in
     )
 
 pub returns-then-apart-eq1 : goal.returns-then-apart-eq1
-returns-then-apart-eq1 c = let a = c.args in 
+returns-then-apart-eq1 c = let a = c.args in
     let e = net_as a.net 1 c.if-apart-eq1.true in
-    let x = c.split_by in 
+    let x = c.split_by in
     subst (λ (n : Net). Parted n a.k a.vals.now a.trails.now x.new.vals x.new.trails) (sym e) x.ensures

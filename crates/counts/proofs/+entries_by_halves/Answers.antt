@@ -24,13 +24,13 @@ returns-then-n-eq2 t c = rw c.if-n-eq2.true (omega (arith, E_two))
 
 -- stands before the sums, since it says what is wrong with a rule that is not that of E
 pub returns : goal.returns
-returns t c = let n = c.args.n in 
+returns t c = let n = c.args.n in
     omega (arith, halves n (omega arith))
 
 pub overflow_add-result-2 : goal.overflow_add-result-2
-overflow_add-result-2 t c = let n = c.args.n in 
+overflow_add-result-2 t c = let n = c.args.n in
     omega (arith, halves n (omega arith), E_small n (omega arith))
 
 pub overflow_add-result-3 : goal.overflow_add-result-3
-overflow_add-result-3 t c = let n = c.args.n in 
+overflow_add-result-3 t c = let n = c.args.n in
     omega (arith, halves n (omega arith), E_small n (omega arith))

@@ -20,13 +20,13 @@ pub returns-then-n-lt2 : goal.returns-then-n-lt2
 returns-then-n-lt2 t c = sym (W_none c.args.n c.if-n-lt2.true)
 
 pub overflow_add-result : goal.overflow_add-result
-overflow_add-result t c = let n = c.args.n in 
+overflow_add-result t c = let n = c.args.n in
     omega (arith, halves n (omega arith), W_small n (omega arith))
 
 pub overflow_add-result-2 : goal.overflow_add-result-2
-overflow_add-result-2 t c = let n = c.args.n in 
+overflow_add-result-2 t c = let n = c.args.n in
     omega (arith, halves n (omega arith), W_small n (omega arith))
 
 pub returns : goal.returns
-returns t c = let n = c.args.n in 
+returns t c = let n = c.args.n in
     omega (arith, halves n (omega arith))

@@ -10,9 +10,9 @@ use Rattle.entry_log.proofs.Written.{packed-written}
 use Rattle.entry_log.proofs.write_entry.Goals as goal
 
 pub returns : goal.returns
-returns c = let a = c.args in 
-    let x = c.packed in 
-    let kind = c.wide in 
+returns c = let a = c.args in
+    let x = c.packed in
+    let kind = c.wide in
     packed-written a.log.now _ (entry_words * a.e) x.result a.kind a.first a.second a.bit
     (x.ensures ∙ ap (λ k. packed k a.first a.second a.bit) kind.ensures)
     (omega arith) c.requires.1 c.requires.2 c.write_packed.ensures

@@ -18,7 +18,7 @@ pub bounds-log-at-4 : goal.bounds-log-at-4
 bounds-log-at-4 c = simp length-set (omega arith)
 
 pub returns : goal.returns
-returns c = let a = c.args in 
-    let x = a.x in 
+returns c = let a = c.args in
+    let x = a.x in
     entry-written a.log.now (entry_words * a.e) (x % 65536) (x / 65536 % 65536) (x / 4294967296 % 65536) (x / 281474976710656)
     (omega arith)

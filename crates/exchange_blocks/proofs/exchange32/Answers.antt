@@ -21,8 +21,8 @@ pub loop-j-preserved : goal.loop-j-preserved
 loop-j-preserved c = let k = ty.before.before in
     let s = k.before in
     let a = s.args in
-    let j = c.loop-j.j in 
-    let h = c.loop-j.invariant.1 in 
+    let j = c.loop-j.j in
+    let h = c.loop-j.invariant.1 in
     let x = get_or c.loop-j.x j 0 in
     let y = get_or c.loop-j.y j 0 in
     let low : x ≡ get_or c.take32-x.result j 0 = h.left_x j (omega arith) in
@@ -42,7 +42,7 @@ loop-j-preserved c = let k = ty.before.before in
 pub returns : goal.returns
 returns c = let s = ty.before.before.before in
     let a = s.args in
-    let h = c.loop-j.invariant.1 in 
+    let h = c.loop-j.invariant.1 in
     let all : c.loop-j.j ≡ 32 = omega arith in
     c.put32-2.ensures ∙ ap (written 32 a.a (λ i. get_or c.loop-j.x i 0)) c.put32.ensures
     ∙ parts_switched 32 a.a a.gap a.s a.blocks.now (λ i. get_or c.loop-j.x i 0) (λ i. get_or c.loop-j.y i 0)

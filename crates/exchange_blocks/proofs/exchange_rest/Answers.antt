@@ -6,14 +6,14 @@ use Rattle.exchange_blocks.proofs.Parts.{after, four_digit, two_digit, one-digit
 use Rattle.exchange_blocks.proofs.exchange_rest.Goals as goal
 
 pub four-c-requires : goal.four-c-requires
-four-c-requires c = let a = c.args in 
-    let r = c.eights-b.ensures.0 in 
+four-c-requires c = let a = c.args in
+    let r = c.eights-b.ensures.0 in
     let b = behind (8 * (a.rest / 8)) (4 * (a.rest / 4 % 2)) (a.rest % 4) a.rest a.gap a.a c.eights-b.result
     (length a.blocks.now) (length c.eights-b.new.blocks) (four_digit a.rest) c.requires.1 c.requires.2 r c.eights-b.auto.blocks in
     (c.requires.0, b.0, b.1)
 
 pub two-d-requires : goal.two-d-requires
-two-d-requires c = let a = c.args in 
+two-d-requires c = let a = c.args in
     let r = after a.a (8 * (a.rest / 8)) (4 * (a.rest / 4 % 2)) c.eights-b.result c.four-c.result
     c.eights-b.ensures.0 c.four-c.ensures.0 in
     let b = behind (8 * (a.rest / 8) + 4 * (a.rest / 4 % 2)) (2 * (a.rest / 2 % 2)) (a.rest % 2) a.rest a.gap a.a
@@ -22,7 +22,7 @@ two-d-requires c = let a = c.args in
     (c.requires.0, b.0, b.1)
 
 pub one-requires : goal.one-requires
-one-requires c = let a = c.args in 
+one-requires c = let a = c.args in
     let q = after a.a (8 * (a.rest / 8)) (4 * (a.rest / 4 % 2)) c.eights-b.result c.four-c.result
     c.eights-b.ensures.0 c.four-c.ensures.0 in
     let r = after a.a (8 * (a.rest / 8) + 4 * (a.rest / 4 % 2)) (2 * (a.rest / 2 % 2)) c.four-c.result c.two-d.result
@@ -33,7 +33,7 @@ one-requires c = let a = c.args in
     (c.requires.0, b.0, b.1)
 
 pub returns : goal.returns
-returns c = let a = c.args in 
+returns c = let a = c.args in
     let n8 = 8 * (a.rest / 8) in
     let n4 = 4 * (a.rest / 4 % 2) in
     let n2 = 2 * (a.rest / 2 % 2) in

@@ -6,11 +6,11 @@ use Rattle.exchange_blocks.proofs.Parts.{none}
 use Rattle.exchange_blocks.proofs.four.Goals as goal
 
 pub returns-then-rest-eq1 : goal.returns-then-rest-eq1
-returns-then-rest-eq1 c = let a = c.args in 
+returns-then-rest-eq1 c = let a = c.args in
     let e : 4 ≡ 4 * (a.rest / 4 % 2) = omega arith in
     (omega arith, c.exchange4.ensures ∙ ap (λ n. bytes_switched a.a a.gap a.s n a.blocks.now) e)
 
 pub returns : goal.returns
-returns c = let a = c.args in 
+returns c = let a = c.args in
     let e : 0 ≡ 4 * (a.rest / 4 % 2) = omega arith in
     (omega arith, none a.a a.gap a.s a.blocks.now ∙ ap (λ n. bytes_switched a.a a.gap a.s n a.blocks.now) e)

@@ -6,11 +6,11 @@ use Rattle.exchange_blocks.proofs.Parts.{none}
 use Rattle.exchange_blocks.proofs.one.Goals as goal
 
 pub returns-then-rest-eq1 : goal.returns-then-rest-eq1
-returns-then-rest-eq1 c = let a = c.args in 
+returns-then-rest-eq1 c = let a = c.args in
     let e : 1 ≡ a.rest % 2 = omega arith in
     c.exchange1.ensures ∙ ap (λ n. bytes_switched a.a a.gap a.s n a.blocks.now) e
 
 pub returns-else-rest-eq1 : goal.returns-else-rest-eq1
-returns-else-rest-eq1 c = let a = c.args in 
+returns-else-rest-eq1 c = let a = c.args in
     let e : 0 ≡ a.rest % 2 = omega arith in
     none a.a a.gap a.s a.blocks.now ∙ ap (λ n. bytes_switched a.a a.gap a.s n a.blocks.now) e

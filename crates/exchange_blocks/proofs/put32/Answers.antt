@@ -10,7 +10,7 @@ unfolding written
 loop-j-init c = (omega arith, (refl, refl))
 
 pub loop-j-preserved : goal.loop-j-preserved
-loop-j-preserved c = let a = c.args in 
+loop-j-preserved c = let a = c.args in
     let j = c.loop-j.j in (
       omega arith,
       (
@@ -23,6 +23,6 @@ pub shape_of-bytes : goal.shape_of-bytes
 shape_of-bytes c = c.loop-j.invariant.1.0
 
 pub returns : goal.returns
-returns c = let a = c.args in 
+returns c = let a = c.args in
     let e : c.loop-j.j ≡ 32 = omega arith in
     c.loop-j.invariant.1.1 ∙ ap (λ j. written j a.at (λ i. get_or a.t3 i 0) a.bytes.now) e

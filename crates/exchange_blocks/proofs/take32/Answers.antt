@@ -9,8 +9,8 @@ pub loop-j-init : goal.loop-j-init
 loop-j-init c = (omega arith, (refl, λ i h. absurd (omega arith)))
 
 pub loop-j-preserved : goal.loop-j-preserved
-loop-j-preserved c = let a = c.args in 
-    let j = c.loop-j.j in 
+loop-j-preserved c = let a = c.args in
+    let j = c.loop-j.j in
     let v = get_or a.bytes.now (a.at + j) 0 in (
       omega arith,
       (

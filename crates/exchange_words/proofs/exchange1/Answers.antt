@@ -8,7 +8,7 @@ pub bounds-blocks-a-4 : goal.bounds-blocks-a-4
 bounds-blocks-a-4 c = simp length-set (omega arith)
 
 pub returns : goal.returns
-returns c = let a = c.args in 
+returns c = let a = c.args in
     byte_switched a.a a.gap a.s a.blocks.now c.wide-x.result c.wide-y.result c.switched-w.result.lower
     c.switched-w.result.upper c.requires.0 c.requires.1
     (λ i. (c.slice_known-1.given i).fits) c.wide-x.ensures.0 c.wide-y.ensures.0 c.switched-w.ensures

@@ -7,15 +7,15 @@ use Rattle.exchange_words.proofs.get2.Goals as goal
 
 -- LEFT part-part-start : tie.Need-slice-bounds-part-start
 -- LEFT part-part-start c = search rules
--- LEFT 
+-- LEFT
 
 -- LEFT part-part-end : tie.Need-slice-bounds-part-end
 -- LEFT part-part-end c = search rules
--- LEFT 
+-- LEFT
 
 pub returns : goal.returns
 unfolding number
-returns c = let a = c.args in 
+returns c = let a = c.args in
     let k = length a.bytes.now - a.at in
     let low = c.wide.ensures.0 ∙ part_at a.at k 0 a.bytes.now (omega arith) in
     let high = c.wide-2.ensures.0 ∙ part_at a.at k 1 a.bytes.now (omega arith) in

@@ -7,14 +7,14 @@ use Rattle.exchange_words.proofs.get4.Goals as goal
 
 -- LEFT part-part-start : tie.Need-slice-bounds-part-start
 -- LEFT part-part-start c = search rules
--- LEFT 
+-- LEFT
 
 -- LEFT part-part-end : tie.Need-slice-bounds-part-end
 -- LEFT part-part-end c = search rules
--- LEFT 
+-- LEFT
 
 pub returns : goal.returns
-returns c = let a = c.args in 
+returns c = let a = c.args in
     let k = length a.bytes.now - a.at in
     let low = c.get2.ensures.0 ∙ number-front 2 a.at k a.bytes.now (omega arith) in
     let high = c.get2-2.ensures.0 ∙ number-part 2 2 a.at k a.bytes.now (omega arith) in

@@ -8,18 +8,18 @@ use Rattle.exchange_words.proofs.put2.Goals as goal
 
 -- LEFT part-part-start : tie.Need-slice-bounds-part-start
 -- LEFT part-part-start c = search rules
--- LEFT 
+-- LEFT
 
 -- LEFT part-part-end : tie.Need-slice-bounds-part-end
 -- LEFT part-part-end c = search rules
--- LEFT 
+-- LEFT
 
 pub bounds-part-1 : goal.bounds-part-1
 bounds-part-1 c = simp length-set (omega arith)
 
 pub returns : goal.returns
 unfolding byte_of written
-returns c = let a = c.args in 
+returns c = let a = c.args in
     let k = length a.bytes.now - a.at in
     let start : a.at + 0 ≡ a.at = omega arith in
     part-written 2 0 a.at k (λ j. byte_of j a.v) a.bytes.now (mid_of a.at k a.bytes.now) (omega arith) (omega arith)

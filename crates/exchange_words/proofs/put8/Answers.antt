@@ -9,14 +9,14 @@ use Rattle.exchange_words.proofs.put8.Goals as goal
 
 -- LEFT part-part-start : tie.Need-slice-bounds-part-start
 -- LEFT part-part-start c = search rules
--- LEFT 
+-- LEFT
 
 -- LEFT part-part-end : tie.Need-slice-bounds-part-end
 -- LEFT part-part-end c = search rules
--- LEFT 
+-- LEFT
 
 pub returns : goal.returns
-returns c = let a = c.args in 
+returns c = let a = c.args in
     let k = length a.bytes.now - a.at in
     ap (put_mid a.at k a.bytes.now) (c.put4-2.ensures
     ∙ ap (written 4 4 (λ j. byte_of j (a.v / 4294967296))) c.put4.ensures)

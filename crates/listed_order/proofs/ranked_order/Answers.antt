@@ -16,7 +16,7 @@ use Rattle.listed_order.proofs.ranked_order.Goals as goal
 
 -- what is known when every question has got a yes
 asked : (c : goal.Else-log-entries)
-    → let a = c.args in 
+    → let a = c.args in
     RankAsked a.n a.r a.order.now a.bits.now a.log.now
 asked c =
     record {
@@ -28,25 +28,25 @@ asked c =
     }
 
 pub returns-then-n-gt6 : goal.returns-then-n-gt6
-returns-then-n-gt6 c = let a = c.args in 
+returns-then-n-gt6 c = let a = c.args in
     let no = listable_no a.n (omega (arith, c.if-n-gt6.true)) in
     refused a.n a.r a.order.now a.bits.now a.log.now (first_no_lem 0 (ranked_questions a.n a.r a.order.now a.bits.now a.log.now) no) c.refuse.ensures
 
 pub returns-then-orders-r : goal.returns-then-orders-r
-returns-then-orders-r c = let a = c.args in 
+returns-then-orders-r c = let a = c.args in
     let short = listable_yes a.n (omega (arith, c.if-n-gt6.false)) in
     let no = le-ltb a.r (factorial a.n) (omega (arith, c.if-orders-r.true, c.count_orders-orders.ensures.0)) in
     refused a.n a.r a.order.now a.bits.now a.log.now (first_no_lem 1 (ranked_questions a.n a.r a.order.now a.bits.now a.log.now) (short, no)) c.refuse-then-orders-r.ensures
 
 pub returns-then-order-n : goal.returns-then-order-n
-returns-then-order-n c = let a = c.args in 
+returns-then-order-n c = let a = c.args in
     let short = listable_yes a.n (omega (arith, c.if-n-gt6.false)) in
     let below = lt-ltb a.r (factorial a.n) (omega (arith, c.if-orders-r.false, c.count_orders-orders.ensures.0)) in
     let no = room_no a.n (length a.order.now) (omega (arith, c.if-order-n.true)) in
     refused a.n a.r a.order.now a.bits.now a.log.now (first_no_lem 2 (ranked_questions a.n a.r a.order.now a.bits.now a.log.now) (short, (below, no))) c.refuse-then-order-n.ensures
 
 pub returns-then-bits-switches : goal.returns-then-bits-switches
-returns-then-bits-switches c = let a = c.args in 
+returns-then-bits-switches c = let a = c.args in
     let short = listable_yes a.n (omega (arith, c.if-n-gt6.false)) in
     let below = lt-ltb a.r (factorial a.n) (omega (arith, c.if-orders-r.false, c.count_orders-orders.ensures.0)) in
     let room = room_yes a.n (length a.order.now) c.if-order-n.false in
@@ -54,7 +54,7 @@ returns-then-bits-switches c = let a = c.args in
     refused a.n a.r a.order.now a.bits.now a.log.now (first_no_lem 3 (ranked_questions a.n a.r a.order.now a.bits.now a.log.now) (short, (below, (room, no)))) c.refuse-then-bits-switches.ensures
 
 pub returns-then-log-entries : goal.returns-then-log-entries
-returns-then-log-entries c = let a = c.args in 
+returns-then-log-entries c = let a = c.args in
     let short = listable_yes a.n (omega (arith, c.if-n-gt6.false)) in
     let below = lt-ltb a.r (factorial a.n) (omega (arith, c.if-orders-r.false, c.count_orders-orders.ensures.0)) in
     let room = room_yes a.n (length a.order.now) c.if-order-n.false in
@@ -66,15 +66,15 @@ pub slice_bounds-set_ranked-end-2 : goal.slice_bounds-set_ranked-end-2
 slice_bounds-set_ranked-end-2 c = sym (length-take-le _ _ c.if-order-n.false)
 
 pub set_ranked-requires : goal.set_ranked-requires
-set_ranked-requires c = let a = c.args in 
+set_ranked-requires c = let a = c.args in
     let Y = asked b0 in
     let l = length-take-le a.n a.order.now Y.room in
-    let few = c.switches.ensures in 
+    let few = c.switches.ensures in
     (omega (arith, l, Y.small), rw l Y.rank_below, Y.bit_count ∙ ap W (sym l), omega (arith, Y.bit_count, few), rw l Y.log_room)
 
 pub returns : goal.returns
-returns c = let a = c.args in 
+returns c = let a = c.args in
     let Y = asked b0 in
     let l = length-take-le a.n a.order.now Y.room in
-    let s = c.set_ranked in 
+    let s = c.set_ranked in
     taken _ _ _ _ _ Y (s.ensures.0 ∙ ap (λ m. order_at m a.r) l) s.ensures.1 s.auto.bits c.accept.ensures

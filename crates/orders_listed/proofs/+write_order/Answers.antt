@@ -67,7 +67,7 @@ slice_bounds-write_order-count t c = rw (starts (begun t c)) (omega arith)
 -- LEFT   make-way-reads.Learnt,
 -- LEFT ) (write-order-at t) write-order.Post
 -- LEFT write-order-part-write-order-start t c = write-order-sub-write-order-2 t c
--- LEFT 
+-- LEFT
 
 -- LEFT write-order-part-write-order-end : (t : ℕ) → write-order-lts.Need-slice-bounds-write-order-end (
 -- LEFT   count-orders-reads.Asked,
@@ -81,13 +81,13 @@ slice_bounds-write_order-count t c = rw (starts (begun t c)) (omega arith)
 -- LEFT ) (write-order-at t) write-order.Post
 -- LEFT write-order-part-write-order-end t c =
 -- LEFT     search rules
--- LEFT 
+-- LEFT
 
 pub write_order-requires : goal.write_order-requires
 write_order-requires t c = let B = begun t c.before in (
-      omega (arith, length-others B, c.requires.0, B.some),
-      (omega (arith, length-others B, c.requires.1.0), rw (length-others B) (left_below B)),
-    )
+  omega (arith, length-others B, c.requires.0, B.some),
+  (omega (arith, length-others B, c.requires.1.0), rw (length-others B) (left_below B)),
+)
 
 pub slice_bounds-make_way-count : goal.slice_bounds-make_way-count
 slice_bounds-make_way-count t c = rw (continued (begun t c.before.before.before.before) c.write_order.ensures) (omega arith)
@@ -103,7 +103,7 @@ slice_bounds-make_way-count t c = rw (continued (begun t c.before.before.before.
 -- LEFT   make-way-reads.Learnt,
 -- LEFT ) (write-order-at t) write-order.Post
 -- LEFT write-order-part-make-way-start t c = write-order-sub-make-way t c
--- LEFT 
+-- LEFT
 
 -- LEFT write-order-part-make-way-end : (t : ℕ) → write-order-lts.Need-slice-bounds-make-way-end (
 -- LEFT   count-orders-reads.Asked,
@@ -117,7 +117,7 @@ slice_bounds-make_way-count t c = rw (continued (begun t c.before.before.before.
 -- LEFT ) (write-order-at t) write-order.Post
 -- LEFT write-order-part-make-way-end t c =
 -- LEFT     search rules
--- LEFT 
+-- LEFT
 
 pub make_way-requires : goal.make_way-requires
 make_way-requires t c = let B = begun t d in

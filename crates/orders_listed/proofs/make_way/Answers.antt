@@ -19,19 +19,19 @@ pub loop-i-init : goal.loop-i-init
 loop-i-init c = over_starts _ _ _
 
 pub loop-i-preserved : goal.loop-i-preserved
-loop-i-preserved c = let l = c.loop-i in 
+loop-i-preserved c = let l = c.loop-i in
     let up : c.at_least.result ≡ digit (not (ltb (get_or l.order l.i 0) c.args.d)) = c.at_least.ensures in
     way_more c.args.d c.args.order.now (omega (arith, c.loop-i-test.true, l.invariant.same)) (rw up) l.invariant
 
 pub at_least-requires : goal.at_least-requires
-at_least-requires c = let l = c.loop-i in 
+at_least-requires c = let l = c.loop-i in
     let x : get_or l.order l.i 0 < 1024 =
     entry_small c.args.d c.args.order.now c.requires.1 (omega (arith, c.loop-i-test.true, l.invariant.same)) l.invariant
     in
     (omega (arith, x, c.requires.0), omega (arith, x, c.requires.0))
 
 pub overflow_add-order : goal.overflow_add-order
-overflow_add-order c = let l = c.loop-i in 
+overflow_add-order c = let l = c.loop-i in
     let x : get_or l.order l.i 0 < 1024 =
     entry_small c.args.d c.args.order.now c.requires.1 (omega (arith, c.loop-i-test.true, l.invariant.same)) l.invariant
     in
@@ -41,5 +41,5 @@ pub shape_of-order : goal.shape_of-order
 shape_of-order c = c.loop-i.invariant.same
 
 pub returns : goal.returns
-returns c = let l = c.loop-i in 
+returns c = let l = c.loop-i in
     way_made _ _ (omega (arith, c.loop-i-test.false, l.invariant.same)) l.invariant

@@ -14,8 +14,8 @@ pub loop-j-init : goal.loop-j-init
 loop-j-init c = (omega arith, none_counted _)
 
 pub overflow_add-c : goal.overflow_add-c
-overflow_add-c c = let a = c.args in 
-    let i = c.loop-j.j in 
+overflow_add-c c = let a = c.args in
+    let i = c.loop-j.j in
     omega (arith, counted_within (λ j. eqb (get_or a.order.now j 0) a.x) i, bit_small (eqb (get_or a.order.now i 0) a.x))
 
 pub loop-j-preserved : goal.loop-j-preserved

@@ -13,7 +13,7 @@ pub loop-i-init : goal.loop-i-init
 loop-i-init c = sweeping_starts _ _
 
 pub loop-i-preserved : goal.loop-i-preserved
-loop-i-preserved c = let at = c.loop-i in 
+loop-i-preserved c = let at = c.loop-i in
     sweeping_more _ _ (omega arith) (good_found _ _ _ c.wide.ensures c.count_matches-c.ensures) c.sweep-low.ensures at.invariant
 
 pub returns : goal.returns

@@ -16,5 +16,5 @@ pub loop-i-preserved : goal.loop-i-preserved
 loop-i-preserved c = filling_more _ _ _ (omega arith) (omega arith) refl (omega arith) (λ j l q. omega arith) refl c.loop-i.invariant
 
 pub returns : goal.returns
-returns c = let n = c.args.n in 
+returns c = let n = c.args.n in
     filled _ n (identity n) (omega arith) (omega arith) (identity-length n) (identity-at n) c.loop-i.invariant

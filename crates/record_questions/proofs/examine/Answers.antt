@@ -8,11 +8,11 @@ use borrow.Author.Rules.{rules}
 use Rattle.record_questions.proofs.examine.Goals as goal
 
 pub returns-then-n-gt-MOST_PLACES : goal.returns-then-n-gt-MOST_PLACES
-returns-then-n-gt-MOST_PLACES c = let a = c.args in 
+returns-then-n-gt-MOST_PLACES c = let a = c.args in
     c.refuse.ensures ∙ examined_large a.n a.e.now a.fixed c.if-n-gt-MOST_PLACES.true
 
 pub returns-then-low-lt1024 : goal.returns-then-low-lt1024
-returns-then-low-lt1024 c = let a = c.args in 
+returns-then-low-lt1024 c = let a = c.args in
     c.refuse-then-low-lt1024.ensures
     ∙ examined_bad a.n a.e.now a.fixed c.if-n-gt-MOST_PLACES.false c.first_bad-low.ensures c.if-low-lt1024.true
 

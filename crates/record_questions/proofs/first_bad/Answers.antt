@@ -23,7 +23,7 @@ loop-i-init c = let a = c.before.before.before.args in
 
 pub loop-i-preserved : goal.loop-i-preserved
 loop-i-preserved c = let b7 = c.before.before.before.before.before.before.before in
-    let at = c.loop-i in 
+    let at = c.loop-i in
     let here = sym (good_past b7.args.n b7.args.e.now at.i at.invariant.0) in
     (omega arith, sweeping_more _ _ (omega arith) here c.sweep-low.ensures at.invariant.1)
 

@@ -9,6 +9,6 @@ use Rattle.select.proofs.Numbers.{digit_byte}
 use Rattle.select.proofs.less.Goals as goal
 
 pub returns : goal.returns
-returns c = let a = c.args.a in 
-    let b = c.args.b in 
+returns c = let a = c.args.a in
+    let b = c.args.b in
     rw (to_z_pos w16 a c.requires.0, to_z_pos w16 b c.requires.1) (digit_byte (ltb a b))

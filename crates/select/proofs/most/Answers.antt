@@ -10,5 +10,5 @@ pub pick-requires : goal.pick-requires
 pick-requires c = rw c.less.ensures (digit_small (ltb c.args.a c.args.b))
 
 pub returns : goal.returns
-returns c = let a = c.args in 
+returns c = let a = c.args in
     c.pick.ensures ∙ rw (c.less.ensures, digit_is (ltb a.a a.b))

@@ -19,12 +19,12 @@ slice_bounds-set_table-end-2 c = let n = length c.args.order.now in
 
 pub set_table-requires : goal.set_table-requires
 set_table-requires c = let n = length c.args.order.now in (
-      c.requires.0,
-      c.requires.1,
-      ap length (took 1024 n c.requires.0) ∙ length-replicate {A = ℕ} n 0,
-      took 1024 n c.requires.0,
-      omega (arith, length-replicate {A = ℕ} 512 0),
-      c.requires.2,
-      c.requires.3,
-      c.requires.4,
-    )
+  c.requires.0,
+  c.requires.1,
+  ap length (took 1024 n c.requires.0) ∙ length-replicate {A = ℕ} n 0,
+  took 1024 n c.requires.0,
+  omega (arith, length-replicate {A = ℕ} 512 0),
+  c.requires.2,
+  c.requires.3,
+  c.requires.4,
+)

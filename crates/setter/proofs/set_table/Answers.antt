@@ -11,10 +11,10 @@ use Rattle.setter.proofs.Start.{cleared, zeros_lengthen, tidy_start, ordered_sta
 use Rattle.setter.proofs.set_table.Goals as goal
 
 pub set_network-w-requires : goal.set_network-w-requires
-set_network-w-requires c = let a = c.args in 
-    let v = c.load in 
-    let b = c.clear in 
-    let o = a.order.now in 
+set_network-w-requires c = let a = c.args in
+    let v = c.load in
+    let b = c.clear in
+    let o = a.order.now in
     let bs : b.new.xs ≡ replicate {A = ℕ} (W (length o)) 0 = b.ensures ∙ cleared a.bits.now (W (length o)) c.requires.5 in
     rw c.whole.ensures (
       room_start a.t o v.new.vals a.trails.now a.pairs.now b.new.xs a.log.now c.requires.0 (v.auto.vals ∙ c.requires.2)
@@ -28,10 +28,10 @@ set_network-w-requires c = let a = c.args in
     )
 
 pub returns : goal.returns
-returns c = let a = c.args in 
-    let v = c.load in 
-    let b = c.clear in 
-    let x = c.set_network-w in 
-    let net = c.whole.ensures in 
+returns c = let a = c.args in
+    let v = c.load in
+    let b = c.clear in
+    let x = c.set_network-w in
+    let net = c.whole.ensures in
     sets_whole a.t a.order.now v.new.vals a.trails.now b.new.xs a.bits.now a.log.now _ _ _ _ x.result
     v.ensures c.requires.3 b.ensures c.requires.5 (rw net at x.ensures.0) (rw net at x.ensures.1)

@@ -17,7 +17,7 @@ bounds-order-i c = omega (arith, c.loop-i.invariant.same)
 
 pub loop-i-preserved : goal.loop-i-preserved
 loop-i-preserved c = let f = number_in c.args.blocks.now in
-    let n = c.args.n in 
+    let n = c.args.n in
     each_more f (tabulate f n) n (length-tabulate f n) (tabulate-at f n) c.loop-i-test.true c.requires.1 c.number_in.ensures c.loop-i.invariant
 
 pub shape_of-order : goal.shape_of-order
@@ -25,5 +25,5 @@ shape_of-order c = c.loop-i.invariant.same
 
 pub returns : goal.returns
 returns c = let f = number_in c.args.blocks.now in
-    let n = c.args.n in 
+    let n = c.args.n in
     each-ends f (tabulate f n) n (length-tabulate f n) (tabulate-at f n) c.loop-i-test.false c.loop-i.invariant

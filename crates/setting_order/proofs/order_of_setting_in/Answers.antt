@@ -23,14 +23,14 @@ slice_bounds-gather-end c = sym (array_kept c.args.n c.number.new.blocks.0 c.req
 
 pub gather-requires : goal.gather-requires
 gather-requires c = (
-      omega (
-        arith,
-        c.requires.0,
-        array_kept c.args.n c.number.new.blocks.0 c.requires.0 c.number.auto.blocks.0
-            c.apply_inverse_in.new.blocks c.apply_inverse_in.auto.blocks,
-      ),
-      omega (arith, c.requires.0),
-    )
+  omega (
+    arith,
+    c.requires.0,
+    array_kept c.args.n c.number.new.blocks.0 c.requires.0 c.number.auto.blocks.0
+        c.apply_inverse_in.new.blocks c.apply_inverse_in.auto.blocks,
+  ),
+  omega (arith, c.requires.0),
+)
 
 pub returns : goal.returns
 returns c = c.gather.ensures

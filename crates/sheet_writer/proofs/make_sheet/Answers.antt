@@ -20,7 +20,7 @@ pub slice_bounds-put_row-end : goal.slice_bounds-put_row-end
 slice_bounds-put_row-end c = sym (length-take-le _ _ (omega (arith, c.gather.auto, c.requires)))
 
 pub put_row-requires : goal.put_row-requires
-put_row-requires c = let bits = c.args.bits.now in 
+put_row-requires c = let bits = c.args.bits.now in
     let k = numbers_for (length bits) in
     let made = row_made k bits (replicate 659 0) c.gather.ensures in (
       omega (
@@ -38,6 +38,6 @@ put_row-requires c = let bits = c.args.bits.now in
     )
 
 pub returns : goal.returns
-returns c = let bits = c.args.bits.now in 
+returns c = let bits = c.args.bits.now in
     let made = row_made (numbers_for (length bits)) bits (replicate 659 0) c.gather.ensures in
     sheet_put c.args.n bits made c.requires.3 c.put_number-a.ensures c.put_number-b.ensures c.put_row.ensures

@@ -11,5 +11,5 @@ pub overflow_add-result : goal.overflow_add-result
 overflow_add-result c = record { fits = sum_fits _ _ _ (omega arith) (omega arith) }
 
 pub returns : goal.returns
-returns c = let a = c.args in 
+returns c = let a = c.args in
     (ap (partner a.n a.i) c.wide.ensures, partner-below a.n a.i c.wide.result (omega arith))

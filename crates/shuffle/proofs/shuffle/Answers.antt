@@ -9,15 +9,15 @@ use borrow.Author.Rules.{rules}
 use Rattle.shuffle.proofs.shuffle.Goals as goal
 
 pub returns-then-n-gt-MOST_PLACES : goal.returns-then-n-gt-MOST_PLACES
-returns-then-n-gt-MOST_PLACES c = let a = c.args in 
+returns-then-n-gt-MOST_PLACES c = let a = c.args in
     shuffle_large a.n a.words.now a.out.now c.if-n-gt-MOST_PLACES.true c.refused.ensures
 
 pub returns-then-out-n : goal.returns-then-out-n
-returns-then-out-n c = let a = c.args in 
+returns-then-out-n c = let a = c.args in
     shuffle_short a.n a.words.now a.out.now c.if-n-gt-MOST_PLACES.false c.if-out-n.true c.refused-then-out-n.ensures
 
 pub returns-in_default : goal.returns-in_default
-returns-in_default c = let a = c.args in 
+returns-in_default c = let a = c.args in
     shuffle_out a.n a.words.now a.out.now c.if-n-gt-MOST_PLACES.false c.if-out-n.false c.choose-choice.ensures
     c.enum_told-1.given.1 c.refused-in_default.ensures
 
@@ -29,7 +29,7 @@ exchange-requires c = let short = length-take c.args.n c.choose-choice.new.kept.
     (omega (arith, short, c.if-out-n.false), omega (arith, short, c.if-n-gt-MOST_PLACES.false))
 
 pub returns : goal.returns
-returns c = let a = c.args in 
+returns c = let a = c.args in
     shuffle_done a.n a.words.now a.out.now c.if-n-gt-MOST_PLACES.false c.if-out-n.false
     c.choose-choice.ensures c.choice-1.given.1 (omega (arith, c.if-n-gt-MOST_PLACES.false, c.choose-choice.auto))
     c.accept.ensures c.number.ensures c.exchange.ensures

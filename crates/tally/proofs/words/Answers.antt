@@ -10,7 +10,7 @@ unfolding after
 loop-i-init c = (omega arith, refl, first_none _)
 
 pub loop-i-preserved : goal.loop-i-preserved
-loop-i-preserved c = let l = c.loop-i in 
+loop-i-preserved c = let l = c.loop-i in
     let z = after_more _ l.i _ _ l.invariant.1 c.next-x.ensures in
     (omega arith, z, first_more _ _ _ _ (omega arith) z l.invariant.2)
 

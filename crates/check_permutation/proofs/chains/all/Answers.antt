@@ -5,4 +5,4 @@ use Rattle.check_permutation.proofs.chains.all.Goals as goal
 
 -- LEFT array-read-chain : tie.Need-array-read-chain invariant-loop decreases-loop
 -- LEFT array-read-chain c = search rules
--- LEFT 
+-- LEFT

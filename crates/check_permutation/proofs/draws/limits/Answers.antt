@@ -5,4 +5,4 @@ use Rattle.check_permutation.proofs.draws.limits.Goals as goal
 
 -- LEFT array-read-check-limits : tie.Need-array-read-check-limits invariant-loop decreases-loop
 -- LEFT array-read-check-limits c = search rules
--- LEFT 
+-- LEFT

@@ -19,12 +19,12 @@ returns-then-self-j c =
     c.give-then-self-j.ensures ∙ exchange_second c.args.self _ _ (passed_record c.args.self c.examine-asked.ensures c.if-asked-ne0.false) c.if-self-i.false c.if-self-j.true c.refuse-then-self-j.ensures
 
 pub exchanged_record-requires : goal.exchanged_record-requires
-exchanged_record-requires c = let p = c.args.self in 
+exchanged_record-requires c = let p = c.args.self in
     let s : length p.entries ≡ 1024 = search rules in
     let w = passed_record p c.examine-asked.ensures c.if-asked-ne0.false in
     (w, (sound p s w).small, c.if-self-i.false, c.if-self-j.false)
 
 pub returns : goal.returns
-returns c = let p = c.args.self in 
+returns c = let p = c.args.self in
     let w = passed_record p c.examine-asked.ensures c.if-asked-ne0.false in
     c.give-2.ensures ∙ exchange_done p _ _ w c.if-self-i.false c.if-self-j.false (accepted_record p c.examine-asked.ensures w) c.exchanged_record.ensures

@@ -13,6 +13,6 @@ pub inverted_record-requires : goal.inverted_record-requires
 inverted_record-requires c = passed_record c.args.self c.examine-asked.ensures c.if-asked-ne0.false
 
 pub returns : goal.returns
-returns c = let p = c.args.self in 
+returns c = let p = c.args.self in
     let w = passed_record p c.examine-asked.ensures c.if-asked-ne0.false in
     c.give-2.ensures ∙ replies_accepted _ _ _ _ w (accepted_record p c.examine-asked.ensures w) c.inverted_record.ensures
