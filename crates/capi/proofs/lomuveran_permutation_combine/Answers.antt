@@ -8,8 +8,7 @@ use borrow.Author.Rules.{rules}
 use Rattle.capi.proofs.lomuveran_permutation_combine.Goals as goal
 
 pub returns : goal.returns
-returns c = let b10 = b6.before.before.before.before in
-    let a = b10.args in
+returns c = let a = c.args in
     reply-crosses a.first.now c.give.ensures
     (c.combine.ensures
     ∙ ap (combine_call c.record_of-p.result) c.record_of.ensures

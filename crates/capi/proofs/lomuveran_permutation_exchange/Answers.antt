@@ -7,5 +7,5 @@ use borrow.Author.Rules.{rules}
 use Rattle.capi.proofs.lomuveran_permutation_exchange.Goals as goal
 
 pub returns : goal.returns
-returns c = let a = c.before.before.before.before.before.before.before.before.args in
+returns c = let a = c.args in
     reply-crosses a.entries.now c.give.ensures (c.exchange.ensures ∙ ap (λ (p : Permutation). exchange_call p a.i a.j) c.record_of-p.ensures)

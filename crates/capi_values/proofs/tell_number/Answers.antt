@@ -5,7 +5,7 @@ use borrow.Author.Rules.{rules}
 use Rattle.capi_values.proofs.tell_number.Goals as goal
 
 pub returns-in_default : goal.returns-in_default
-returns-in_default c = number_refused (c.tell-answer.ensures ∙ c.answer.ensures) c.enum_told-1.given.1
+returns-in_default c = number_refused (c.tell-answer.ensures ∙ c.answer.ensures) c.in_default.is
 
 pub returns : goal.returns
-returns c = number-given (c.tell-answer.ensures ∙ c.answer.ensures) c.r-1.given.1
+returns c = number-given (c.tell-answer.ensures ∙ c.answer.ensures) c.in-Number.is

@@ -4,7 +4,7 @@ use Rattle.std.proofs.Common.{◌-◌, ◌≤◌, rules}
 use Rattle.check_counts.proofs.compare.Given as goal
 
 abbrev pub invariant-loop-n : goal.invariant-loop-n
-invariant-loop-n l = (l.entries ≤ 1025) × (switches ≤ l.entries) × (entries ≤ l.entries)
+invariant-loop-n l = (l.n ≤ 1025) × (l.switches ≤ l.n) × (l.entries ≤ l.n)
 
 abbrev pub decreases-loop-n : goal.decreases-loop-n
-decreases-loop-n l = 1025 - l.entries
+decreases-loop-n l = 1025 - l.n

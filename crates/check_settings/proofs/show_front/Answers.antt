@@ -6,4 +6,4 @@ use borrow.Author.Rules.{rules}
 use Rattle.check_settings.proofs.show_front.Goals as goal
 
 pub slice_bounds-show-end : goal.slice_bounds-show-end
-slice_bounds-show-end c = sym (length-take-le _ _ c.before.if1.true)
+slice_bounds-show-end c = sym (length-take-le _ _ c.if-n-input.true)

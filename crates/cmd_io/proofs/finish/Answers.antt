@@ -6,4 +6,4 @@ use borrow.Author.Rules.{rules}
 use Rattle.cmd_io.proofs.finish.Goals as goal
 
 pub slice_bounds-write_output-end : goal.slice_bounds-write_output-end
-slice_bounds-write_output-end c = sym (length-take-le _ _ c.before.output-length.ensures.1)
+slice_bounds-write_output-end c = sym (length-take-le _ _ c.output_length-n.ensures.1)

@@ -17,7 +17,7 @@ put_refusal-requires c = let a = c.answer.result in
     omega (arith, refusal_fits a.number a.place (omega arith) (omega arith), c.well_formed)
 
 pub returns-in_default : goal.returns-in_default
-returns-in_default c = let told = c.enum_told-1.given.1 in
+returns-in_default c = let told = c.in_default.is in
     let P = rw (c.answer.ensures ∙ ap answer_of told) at c.put_refusal.ensures in
     prints _ (no_number _ (refused _ 0 _ _ (ap meaning (sym told) ∙ c.read_number-read.ensures))) P
 
@@ -27,18 +27,18 @@ put_refusal-requires-then-n-gt6 c = let fits : length (refusal_line 17 0) ≤ 53
 
 pub returns-then-n-gt6 : goal.returns-then-n-gt6
 returns-then-n-gt6 c = let P = rw c.refuse.ensures at c.put_refusal-then-n-gt6.ensures in
-    let N = reads _ 0 _ _ (ap meaning (sym c.read-1.given.1) ∙ c.read_number-read.ensures) in
+    let N = reads _ 0 _ _ (ap meaning (sym c.in-Number.is) ∙ c.read_number-read.ensures) in
     prints _ (too_long _ N c.if-n-gt6.true) P
 
 pub put_refusal-requires-then-next-input : goal.put_refusal-requires-then-next-input
-put_refusal-requires-then-next-input c = let p = c.read-1.given.0.1.0 in
+put_refusal-requires-then-next-input c = let p = c.in-Number.next in
     rw c.refuse-then-next-input.ensures (omega (arith, refusal_fits 12 p (omega arith) (omega arith), c.well_formed))
 
 pub returns-then-next-input : goal.returns-then-next-input
 returns-then-next-input c = let P = rw c.refuse-then-next-input.ensures at c.put_refusal-then-next-input.ensures in
-    let N = reads _ 0 _ _ (ap meaning (sym c.read-1.given.1) ∙ c.read_number-read.ensures) in
+    let N = reads _ 0 _ _ (ap meaning (sym c.in-Number.is) ∙ c.read_number-read.ensures) in
     prints _ (surplus _ N c.if-n-gt6.false c.if-next-input.true) P
 
 pub returns : goal.returns
-returns c = let N = reads _ 0 _ _ (ap meaning (sym c.read-1.given.1) ∙ c.read_number-read.ensures) in
+returns c = let N = reads _ 0 _ _ (ap meaning (sym c.in-Number.is) ∙ c.read_number-read.ensures) in
     prints _ (all_orders _ N c.if-n-gt6.false c.if-next-input.false) c.put_orders.ensures

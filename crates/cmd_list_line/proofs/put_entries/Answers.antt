@@ -28,10 +28,6 @@ loop-i-init c = let xs = c.args.entries.now in
     let h = rw (entries_some xs c.if-entries-eq0.false) at c.requires in
     parting_starts _ _ _ (omega (arith, h, length-append (decimal (get_or xs 0 0)) (behind_commas (drop 1 xs)), p.ensures.place, p.auto.out))
 
--- LEFT slice-aggregate-put-text : tie.Need-slice-aggregate-put-text invariant-loop decreases-loop
--- LEFT slice-aggregate-put-text c = search rules
--- LEFT
-
 pub put_text-a-requires : goal.put_text-a-requires
 put_text-a-requires c = comma_room c.loop-i.invariant c.loop-i-test.true
 

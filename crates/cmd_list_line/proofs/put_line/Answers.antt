@@ -11,19 +11,11 @@ pub put_entries-a-requires : goal.put_entries-a-requires
 put_entries-a-requires c = let a = c.args in
     room_first a.out.now a.at (entries_text a.order.now) (line " " (bits_text a.bits.now)) c.requires
 
--- LEFT slice-aggregate-put-text : tie.Need-slice-aggregate-put-text
--- LEFT slice-aggregate-put-text c = search rules
--- LEFT
-
 pub put_text-b-requires : goal.put_text-b-requires
 put_text-b-requires c = space_room c.args.order.now c.args.bits.now c.requires c.put_entries-a.ensures
 
 pub put_bits-c-requires : goal.put_bits-c-requires
 put_bits-c-requires c = bits_room c.args.order.now c.args.bits.now c.requires c.put_entries-a.ensures c.put_text-b.ensures
-
--- LEFT slice-aggregate-put-text-2 : tie.Need-slice-aggregate-put-text-2
--- LEFT slice-aggregate-put-text-2 c = search rules
--- LEFT
 
 pub put_text-requires : goal.put_text-requires
 put_text-requires c = let a = c.args in

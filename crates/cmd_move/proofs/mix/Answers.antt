@@ -13,16 +13,16 @@ use Rattle.cmd_move.proofs.mix.Goals as goal
 
 pub returns-in_default : goal.returns-in_default
 unfolding mix_call
-returns-in_default c = move_refused (moved paper) _ _ _ _ c.read_setting-read.ensures c.enum_told-1.given.1 c.answer.ensures
+returns-in_default c = move_refused (moved paper) _ _ _ _ c.read_setting-read.ensures c.in_default.is c.answer.ensures
 
 pub slice_bounds-bits-end : goal.slice_bounds-bits-end
-slice_bounds-bits-end c = setting_room _ _ c.read_setting-read.ensures c.read-1.given.1
+slice_bounds-bits-end c = setting_room _ _ c.read_setting-read.ensures c.in-Number.is
 
 pub slice_bounds-apply-end : goal.slice_bounds-apply-end
-slice_bounds-apply-end c = sym (length-take-le _ _ (setting_room _ _ c.read_setting-read.ensures c.read-1.given.1))
+slice_bounds-apply-end c = sym (length-take-le _ _ (setting_room _ _ c.read_setting-read.ensures c.in-Number.is))
 
 pub returns : goal.returns
 unfolding mix_call apply_call
 returns c = let a = c.args in
-    move_settles (moved paper) a.sheet.now a.width a.blocks.now _ c.read_setting-read.ensures c.read-1.given.1
+    move_settles (moved paper) a.sheet.now a.width a.blocks.now _ c.read_setting-read.ensures c.in-Number.is
     (unlogged c.apply.ensures)

@@ -12,10 +12,6 @@ use Rattle.cmd_picture.proofs.put_heading.Goals as goal
 pub put_bits-w-requires : goal.put_bits-w-requires
 put_bits-w-requires c = omega (arith, bits_few c.args.n c.args.bits.now c.requires.1 c.requires.2)
 
--- LEFT slice-aggregate-put-text : tie.Need-slice-aggregate-put-text
--- LEFT slice-aggregate-put-text c = search rules
--- LEFT
-
 pub slice_bounds-columns-end : goal.slice_bounds-columns-end
 slice_bounds-columns-end c = put_within c.put_bits-w.ensures
 

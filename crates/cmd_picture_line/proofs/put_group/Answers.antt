@@ -16,10 +16,6 @@ pub put_text-end-requires : goal.put_text-end-requires
 put_text-end-requires c =
     let cs = c.args.columns.now in omega (arith, c.requires, ap length (group_some cs c.if-columns-eq0.false), length-append cs (text " "))
 
--- LEFT slice-aggregate-put-text : tie.Need-slice-aggregate-put-text
--- LEFT slice-aggregate-put-text c = search rules
--- LEFT
-
 pub put_text-requires : goal.put_text-requires
 put_text-requires c =
     let cs = c.args.columns.now in omega (arith, c.requires, c.put_text-end.ensures.place, c.put_text-end.auto, ap length (group_some cs c.if-columns-eq0.false), length-append cs (text " "))

@@ -14,10 +14,6 @@ pub put_groups-a-requires : goal.put_groups-a-requires
 put_groups-a-requires c =
     let n = c.args.n in let cs = c.args.columns.now in let w = c.switches.ensures.0 in let v = c.switches-2.ensures.0 in (omega arith, omega arith, omega (arith, w, v, c.requires.2, output_within n c.requires.0), rw (groups_are n cs w v) (omega (arith, c.requires.3, length-append (grouped n cs) (text "\n"))))
 
--- LEFT slice-aggregate-put-text : tie.Need-slice-aggregate-put-text
--- LEFT slice-aggregate-put-text c = search rules
--- LEFT
-
 pub put_text-requires : goal.put_text-requires
 put_text-requires c =
     let n = c.args.n in let cs = c.args.columns.now in let e = groups_are n cs c.switches.ensures.0 c.switches-2.ensures.0 in omega (arith, c.requires.3, c.put_groups-a.ensures.place, c.put_groups-a.auto, ap length e, length-append (grouped n cs) (text "\n"))

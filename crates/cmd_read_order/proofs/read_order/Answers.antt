@@ -8,20 +8,20 @@ use borrow.Author.Rules.{rules}
 use Rattle.cmd_read_order.proofs.read_order.Goals as goal
 
 pub returns-in_default : goal.returns-in_default
-returns-in_default c = count_stops _ c.enum_told-1.given.1 c.read_number-count.ensures
+returns-in_default c = count_stops _ c.in_default.is c.read_number-count.ensures
 
 pub returns-then-n-gt-MOST_PLACES : goal.returns-then-n-gt-MOST_PLACES
 returns-then-n-gt-MOST_PLACES c =
-    count_large _ (reads _ _ _ _ (ap meaning (sym c.count-1.given.1) ∙ c.read_number-count.ensures)) c.if-n-gt-MOST_PLACES.true
+    count_large _ (reads _ _ _ _ (ap meaning (sym c.in-Number.is) ∙ c.read_number-count.ensures)) c.if-n-gt-MOST_PLACES.true
 
 pub returns-in_default-entries : goal.returns-in_default-entries
 returns-in_default-entries c =
-    row_stop _ (reads _ _ _ _ (ap meaning (sym c.count-1.given.1) ∙ c.read_number-count.ensures)) c.if-n-gt-MOST_PLACES.false c.read_row-entries.ensures c.enum_told-in_default-entries-1.given.1
+    row_stop _ (reads _ _ _ _ (ap meaning (sym c.in-Number.is) ∙ c.read_number-count.ensures)) c.if-n-gt-MOST_PLACES.false c.read_row-entries.ensures c.in_default-entries.is
 
 pub returns-then-end-input : goal.returns-then-end-input
 returns-then-end-input c =
-    surplus _ (reads _ _ _ _ (ap meaning (sym c.count-1.given.1) ∙ c.read_number-count.ensures)) c.if-n-gt-MOST_PLACES.false c.read_row-entries.ensures c.entries-1.given.1 c.if-end-input.true
+    surplus _ (reads _ _ _ _ (ap meaning (sym c.in-Number.is) ∙ c.read_number-count.ensures)) c.if-n-gt-MOST_PLACES.false c.read_row-entries.ensures c.in-Number-entries.is c.if-end-input.true
 
 pub returns : goal.returns
 returns c =
-    order-done _ (reads _ _ _ _ (ap meaning (sym c.count-1.given.1) ∙ c.read_number-count.ensures)) c.if-n-gt-MOST_PLACES.false c.read_row-entries.ensures c.entries-1.given.1 c.if-end-input.false
+    order-done _ (reads _ _ _ _ (ap meaning (sym c.in-Number.is) ∙ c.read_number-count.ensures)) c.if-n-gt-MOST_PLACES.false c.read_row-entries.ensures c.in-Number-entries.is c.if-end-input.false

@@ -8,10 +8,6 @@ use Rattle.cmd_text.proofs.Lines.{room_first, room_second, room_third, put_three
 use borrow.Author.Rules.{rules}
 use Rattle.cmd_settings.proofs.put_lines.Goals as goal
 
--- LEFT slice-aggregate-put-number : tie.Need-slice-aggregate-put-number
--- LEFT slice-aggregate-put-number c = search rules
--- LEFT
-
 pub put_number-a-requires : goal.put_number-a-requires
 unfolding setting_lines
 put_number-a-requires c =
@@ -21,10 +17,6 @@ pub put_setting-b-requires : goal.put_setting-b-requires
 unfolding setting_lines
 put_setting-b-requires c =
     room_second (line "setting " (bits_text c.args.bits.now)) (line "entries " (decimal c.args.entries)) c.put_number-a.ensures (omega (arith, c.requires))
-
--- LEFT slice-aggregate-put-number-2 : tie.Need-slice-aggregate-put-number-2
--- LEFT slice-aggregate-put-number-2 c = search rules
--- LEFT
 
 pub put_number-requires : goal.put_number-requires
 unfolding setting_lines

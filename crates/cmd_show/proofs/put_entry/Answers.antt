@@ -6,10 +6,6 @@ use Rattle.cmd_show.proofs.Spacing.{entry_few}
 use borrow.Author.Rules.{rules}
 use Rattle.cmd_show.proofs.put_entry.Goals as goal
 
--- LEFT slice-aggregate-put-text : tie.Need-slice-aggregate-put-text
--- LEFT slice-aggregate-put-text c = search rules
--- LEFT
-
 pub put_decimal-requires : goal.put_decimal-requires
 put_decimal-requires c = omega (arith, c.requires, c.put_text-a.ensures.place, c.put_text-a.auto, entry_few c.args.v (search rules))
 

@@ -5,14 +5,6 @@ use Rattle.cmd_show.proofs.Showing.{order-line}
 use borrow.Author.Rules.{rules}
 use Rattle.cmd_show.proofs.put_order.Goals as goal
 
--- LEFT slice-aggregate-put-text : tie.Need-slice-aggregate-put-text
--- LEFT slice-aggregate-put-text c = search rules
--- LEFT
-
--- LEFT slice-aggregate-put-text-2 : tie.Need-slice-aggregate-put-text-2
--- LEFT slice-aggregate-put-text-2 c = search rules
--- LEFT
-
 pub put_text-requires : goal.put_text-requires
 put_text-requires c =
     omega (arith, c.requires, c.put_text-a.ensures.place, c.put_order_text-b.ensures.1, c.put_order_text-b.auto, c.put_text-a.auto)

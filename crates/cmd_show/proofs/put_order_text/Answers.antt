@@ -8,10 +8,6 @@ use borrow.Author.Rules.{rules}
 use Rattle.cmd_show.proofs.Spacing.{Spacing, no_order, spacing_starts, spacing_more, spacing_ends}
 use Rattle.cmd_show.proofs.put_order_text.Goals as goal
 
--- LEFT slice-aggregate-put-text : tie.Need-slice-aggregate-put-text invariant-loop decreases-loop
--- LEFT slice-aggregate-put-text c = search rules
--- LEFT
-
 pub returns-then-order-eq0 : goal.returns-then-order-eq0
 returns-then-order-eq0 c = (rw (no_order c.args.order.now c.if-order-eq0.true) c.put_text.ensures, omega (arith, c.put_text.ensures.place))
 

@@ -5,10 +5,6 @@ use Rattle.cmd_show.proofs.Showing.{places-line, setting-line, setting_put}
 use borrow.Author.Rules.{rules}
 use Rattle.cmd_show.proofs.put_setting.Goals as goal
 
--- LEFT slice-aggregate-put-number : tie.Need-slice-aggregate-put-number
--- LEFT slice-aggregate-put-number c = search rules
--- LEFT
-
 pub put_number-a-requires : goal.put_number-a-requires
 put_number-a-requires c = omega (arith, c.requires.4, places-line c.args.n c.requires.0)
 

@@ -9,18 +9,18 @@ use borrow.Author.Rules.{rules}
 use Rattle.cmd_show.proofs.show_sheet.Goals as goal
 
 pub returns-in_default : goal.returns-in_default
-returns-in_default c = show_refused _ _ _ c.read_setting-read.ensures c.enum_told-1.given.1 c.answer.ensures
+returns-in_default c = show_refused _ _ _ c.read_setting-read.ensures c.in_default.is c.answer.ensures
 
 pub slice_bounds-bits-end : goal.slice_bounds-bits-end
-slice_bounds-bits-end c = setting_room _ _ c.read_setting-read.ensures c.read-1.given.1
+slice_bounds-bits-end c = setting_room _ _ c.read_setting-read.ensures c.in-Number.is
 
 pub slice_bounds-put_setting-end-2 : goal.slice_bounds-put_setting-end-2
-slice_bounds-put_setting-end-2 c = sym (length-take-le _ _ (setting_room _ _ c.read_setting-read.ensures c.read-1.given.1))
+slice_bounds-put_setting-end-2 c = sym (length-take-le _ _ (setting_room _ _ c.read_setting-read.ensures c.in-Number.is))
 
 pub put_setting-requires : goal.put_setting-requires
 put_setting-requires c = let R = c.read_setting-read.ensures in
-    let t = c.read-1.given.1 in
+    let t = c.in-Number.is in
     (setting_few _ _ R t, setting_fits _ _ R t, setting-count _ _ R t, setting_are_bits _ _ R t, omega arith)
 
 pub returns : goal.returns
-returns c = show_done _ _ _ c.read_setting-read.ensures c.read-1.given.1 c.put_setting.ensures c.accept.ensures
+returns c = show_done _ _ _ c.read_setting-read.ensures c.in-Number.is c.put_setting.ensures c.accept.ensures

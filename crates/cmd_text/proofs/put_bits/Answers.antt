@@ -9,10 +9,6 @@ use Rattle.cmd_text.specs.Text.{characters}
 use Rattle.cmd_text.proofs.Lines.{Laying, lay_starts, lay_more, lay_ends, length-characters, character-at, bits_none, bits_some, bits_long}
 use Rattle.cmd_text.proofs.put_bits.Goals as goal
 
--- LEFT slice-aggregate-put-text : tie.Need-slice-aggregate-put-text invariant-loop decreases-loop
--- LEFT slice-aggregate-put-text c = search rules
--- LEFT
-
 pub put_text-requires : goal.put_text-requires
 put_text-requires c = rw (bits_none _ c.if-bits-eq0.true) at c.requires
 

@@ -12,10 +12,6 @@ put_text-a-requires c = room_first c.args.out.now c.args.at c.args.label.now (de
 pub put_decimal-b-requires : goal.put_decimal-b-requires
 put_decimal-b-requires c = room_second (decimal c.args.v) (text "\n") c.put_text-a.ensures c.requires
 
--- LEFT slice-aggregate-put-text : tie.Need-slice-aggregate-put-text
--- LEFT slice-aggregate-put-text c = search rules
--- LEFT
-
 pub put_text-requires : goal.put_text-requires
 put_text-requires c = room_third (decimal c.args.v) (text "\n") c.put_text-a.ensures c.requires c.put_decimal-b.ensures
 

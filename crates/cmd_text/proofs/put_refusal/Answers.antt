@@ -7,10 +7,6 @@ use Rattle.cmd_text.proofs.Lines.{room_first, room_second, room_third, put_three
 use borrow.Author.Rules.{rules}
 use Rattle.cmd_text.proofs.put_refusal.Goals as goal
 
--- LEFT slice-aggregate-put-text : tie.Need-slice-aggregate-put-text
--- LEFT slice-aggregate-put-text c = search rules
--- LEFT
-
 pub put_text-a-requires : goal.put_text-a-requires
 unfolding refusal_line
 put_text-a-requires c =
@@ -20,10 +16,6 @@ pub put_decimal-b-requires : goal.put_decimal-b-requires
 unfolding refusal_line
 put_decimal-b-requires c =
     room_second (decimal c.args.refused.number) (line " at " (decimal c.args.refused.place)) c.put_text-a.ensures (omega (arith, c.requires))
-
--- LEFT slice-aggregate-put-number : tie.Need-slice-aggregate-put-number
--- LEFT slice-aggregate-put-number c = search rules
--- LEFT
 
 pub put_number-requires : goal.put_number-requires
 unfolding refusal_line

@@ -6,19 +6,11 @@ use Rattle.cmd_text.proofs.Lines.{room_first, room_second, room_third, put_three
 use borrow.Author.Rules.{rules}
 use Rattle.cmd_text.proofs.put_setting.Goals as goal
 
--- LEFT slice-aggregate-put-text : tie.Need-slice-aggregate-put-text
--- LEFT slice-aggregate-put-text c = search rules
--- LEFT
-
 pub put_text-a-requires : goal.put_text-a-requires
 put_text-a-requires c = room_first c.args.out.now c.args.at (text "setting ") (bits_text c.args.bits.now ++ text "\n") c.requires
 
 pub put_bits-end-requires : goal.put_bits-end-requires
 put_bits-end-requires c = room_second (bits_text c.args.bits.now) (text "\n") c.put_text-a.ensures c.requires
-
--- LEFT slice-aggregate-put-text-2 : tie.Need-slice-aggregate-put-text-2
--- LEFT slice-aggregate-put-text-2 c = search rules
--- LEFT
 
 pub put_text-requires : goal.put_text-requires
 put_text-requires c = room_third (bits_text c.args.bits.now) (text "\n") c.put_text-a.ensures c.requires c.put_bits-end.ensures

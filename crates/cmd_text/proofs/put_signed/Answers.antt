@@ -9,10 +9,6 @@ use Rattle.cmd_text.proofs.Lines.{put_both}
 use borrow.Author.Rules.{rules}
 use Rattle.cmd_text.proofs.put_signed.Goals as goal
 
--- LEFT slice-aggregate-put-text : tie.Need-slice-aggregate-put-text
--- LEFT slice-aggregate-put-text c = search rules
--- LEFT
-
 pub put_text-a-requires : goal.put_text-a-requires
 put_text-a-requires c = omega (arith, ap length (signed_below c.ranges.z c.if-z-lt0.true refl), c.requires)
 

@@ -6,10 +6,6 @@ use Rattle.cmd_usage.proofs.Programs.{subject_room}
 use borrow.Author.Rules.{rules}
 use Rattle.cmd_usage.proofs.put_subject.Goals as goal
 
--- LEFT slice-aggregate-put-text : tie.Need-slice-aggregate-put-text
--- LEFT slice-aggregate-put-text c = search rules
--- LEFT
-
 pub returns : goal.returns
 returns c =
     put_three (text ": ") c.args.what.now c.put_name-a.ensures.0 (subject_room c.args.program c.args.what.now c.requires) c.put_text-b.ensures c.put_text.ensures

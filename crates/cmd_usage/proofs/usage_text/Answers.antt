@@ -3,58 +3,26 @@
 use borrow.Author.Rules.{rules}
 use Rattle.cmd_usage.proofs.usage_text.Goals as goal
 
--- LEFT slice-aggregate-put-text : tie.Need-slice-aggregate-put-text
--- LEFT slice-aggregate-put-text c = search rules
--- LEFT
-
--- LEFT slice-aggregate-put-text-2 : tie.Need-slice-aggregate-put-text-2
--- LEFT slice-aggregate-put-text-2 c = search rules
--- LEFT
-
--- LEFT slice-aggregate-put-text-3 : tie.Need-slice-aggregate-put-text-3
--- LEFT slice-aggregate-put-text-3 c = search rules
--- LEFT
-
--- LEFT slice-aggregate-put-text-4 : tie.Need-slice-aggregate-put-text-4
--- LEFT slice-aggregate-put-text-4 c = search rules
--- LEFT
-
--- LEFT slice-aggregate-put-text-5 : tie.Need-slice-aggregate-put-text-5
--- LEFT slice-aggregate-put-text-5 c = search rules
--- LEFT
-
--- LEFT slice-aggregate-put-text-6 : tie.Need-slice-aggregate-put-text-6
--- LEFT slice-aggregate-put-text-6 c = search rules
--- LEFT
-
--- LEFT slice-aggregate-put-text-7 : tie.Need-slice-aggregate-put-text-7
--- LEFT slice-aggregate-put-text-7 c = search rules
--- LEFT
-
--- LEFT slice-aggregate-put-text-8 : tie.Need-slice-aggregate-put-text-8
--- LEFT slice-aggregate-put-text-8 c = search rules
--- LEFT
-
 pub returns-in-Draw : goal.returns-in-Draw
-returns-in-Draw c = rw c.enum_told-1.given.1 c.put_text.ensures
+returns-in-Draw c = rw c.in-Draw.is c.put_text.ensures
 
 pub returns-in-Sheet : goal.returns-in-Sheet
-returns-in-Sheet c = rw c.enum_told-in-Sheet-1.given.1 c.put_text-in-Sheet.ensures
+returns-in-Sheet c = rw c.in-Sheet.is c.put_text-in-Sheet.ensures
 
 pub returns-in-Mix : goal.returns-in-Mix
-returns-in-Mix c = rw c.enum_told-in-Mix-1.given.1 c.put_text-in-Mix.ensures
+returns-in-Mix c = rw c.in-Mix.is c.put_text-in-Mix.ensures
 
 pub returns-in-Unmix : goal.returns-in-Unmix
-returns-in-Unmix c = rw c.enum_told-in-Unmix-1.given.1 c.put_text-in-Unmix.ensures
+returns-in-Unmix c = rw c.in-Unmix.is c.put_text-in-Unmix.ensures
 
 pub returns-in-Show : goal.returns-in-Show
-returns-in-Show c = rw c.enum_told-in-Show-1.given.1 c.put_text-in-Show.ensures
+returns-in-Show c = rw c.in-Show.is c.put_text-in-Show.ensures
 
 pub returns-in-Settings : goal.returns-in-Settings
-returns-in-Settings c = rw c.enum_told-in-Settings-1.given.1 c.put_text-in-Settings.ensures
+returns-in-Settings c = rw c.in-Settings.is c.put_text-in-Settings.ensures
 
 pub returns-in-Chart : goal.returns-in-Chart
-returns-in-Chart c = rw c.enum_told-in-Chart-1.given.1 c.put_text-in-Chart.ensures
+returns-in-Chart c = rw c.in-Chart.is c.put_text-in-Chart.ensures
 
 pub returns-in-List : goal.returns-in-List
-returns-in-List c = rw c.enum_told-in-List-1.given.1 c.put_text-in-List.ensures
+returns-in-List c = rw c.in-List.is c.put_text-in-List.ensures

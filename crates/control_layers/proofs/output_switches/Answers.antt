@@ -10,12 +10,12 @@ pub overflow_add-h : goal.overflow_add-h
 overflow_add-h c = omega (arith, small c.requires.1 c.requires.0)
 
 pub act_on-requires : goal.act_on-requires
-act_on-requires c = let s = c.before.before.before.before.before.before.before.before.before.before.before in (
-  s.requires.0,
-  s.requires.1,
-  s.requires.2,
+act_on-requires c = (
+  c.requires.0,
+  c.requires.1,
+  c.requires.2,
   omega arith,
   search rules,
-  rw c.before.before.before.before.before.last-bits.ensures
-      (each_below 2 _ _ _ s.args.bits.now s.requires.4 (λ i x h. omega arith)),
+  rw c.last_bits.ensures
+      (each_below 2 _ _ _ c.args.bits.now c.requires.4 (λ i x h. omega arith)),
 )

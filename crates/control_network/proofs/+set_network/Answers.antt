@@ -136,7 +136,7 @@ returns-then-net-lt2 t c = let a = c.args in
     )
 
 pub enter-x-requires : goal.enter-x-requires
-enter-x-requires t c = let p = c.requires.1 in
+enter-x-requires t c = let p = c.requires in
     let two : 2 ≤ c.args.net.size = c.if-net-lt2.false in
     (two, p.0, p.1, p.2, p.3)
 

@@ -32,48 +32,45 @@ returns-then-net-lt3 c = let a = c.args in
     )
 
 pub settle_inputs-x-requires : goal.settle_inputs-x-requires
-settle_inputs-x-requires c = let s = c.before.before.before.before.before.before.before.before.before.before.before.before in
-    let a = s.args in
-    let h : 3 ≤ a.net.size = c.before.before.before.before.before.if1.false in
-    let R = s.requires.1 in (
-      s.requires.0,
+settle_inputs-x-requires c = let a = c.args in
+    let h : 3 ≤ a.net.size = c.if-net-lt3.false in
+    let R = c.requires.1 in (
+      c.requires.0,
       R.values_room,
       R.pairs_room,
-      omega (arith, R.bits_room, W_parts a.net.size s.requires.0),
+      omega (arith, R.bits_room, W_parts a.net.size c.requires.0),
       omega (arith, R.log_room, E_more a.net.size h),
       ordered_within a.net a.w.b (unmarked 512 a.vals.now a.trails.now a.bits.now a.w)
-          (small R.values_room s.requires.0).0 s.requires.3,
-      s.requires.2.f_below,
-      s.requires.2.c_below,
+          (small R.values_room c.requires.0).0 c.requires.3,
+      c.requires.2.f_below,
+      c.requires.2.c_below,
       omega (arith, R.few),
     )
 
 pub step4-requires : goal.step4-requires
-step4-requires c = let at23 = at13.before.before.before.before.before.before.before.before.before.before in
-    let s = at23 in
-    let a = s.args in
-    let h : 3 ≤ a.net.size = at16.if1.false in
-    let x = c.before.before.before.before.before.before.before.before.before.before.settle-inputs in
+step4-requires c = let a = c.args in
+    let h : 3 ≤ a.net.size = c.if-net-lt3.false in
+    let x = c.settle_inputs-x in
     let k = up a.net.size in
     let N = subnetwork_of a.net a.w.b in
-    let R = s.requires.1 in
-    let few = (small R.values_room s.requires.0).0 in
+    let R = c.requires.1 in
+    let few = (small R.values_room c.requires.0).0 in
     let before : State = unmarked k a.vals.now a.trails.now a.bits.now a.w in
-    let O = s.requires.3 in
-    let T : Tidy (state a.vals.now a.trails.now (marks_in k x.new.1.0 (replicate k 0)) x.new.1.1.1.0 x.result) =
+    let O = c.requires.3 in
+    let T : Tidy (state a.vals.now a.trails.now (marks_in k x.new.pairs (replicate k 0)) x.new.bits x.result) =
     tidy_is (sym (x.ensures.1 a.trails.now k (omega arith)))
     (tidy_rounds a.net.topology N few before
     (order_small N O.order (unmarked 512 a.vals.now a.trails.now a.bits.now a.w) few O.permutation O.holding)
-    s.requires.2 k)
+    c.requires.2 k)
     in (
-      s.requires.0,
+      c.requires.0,
       R.values_room,
       R.trails_room,
-      omega (arith, R.bits_room, x.auto.1.1.1.0, x.ensures.0.bit, W_parts a.net.size s.requires.0),
+      omega (arith, R.bits_room, x.auto.bits, x.ensures.0.bit, W_parts a.net.size c.requires.0),
       omega (
         arith,
         R.log_room,
-        x.auto.1.1.1.1.1.0,
+        x.auto.log,
         x.ensures.0.count,
         length-rounds k a.net.start a.net.size a.w.b,
         E_more
@@ -84,11 +81,9 @@ step4-requires c = let at23 = at13.before.before.before.before.before.before.bef
     )
 
 pub returns : goal.returns
-returns c = let at30 = at26.before.before.before.before in
-    let s = at30 in
-    let a = s.args in
-    let h : 3 ≤ a.net.size = at23.if1.false in
-    let x = at17.settle-inputs in
+returns c = let a = c.args in
+    let h : 3 ≤ a.net.size = c.if-net-lt3.false in
+    let x = c.settle_inputs-x in
     let y = c.step4 in
     let k = up a.net.size in
     let wiring = wiring_of a.net.topology in
@@ -96,19 +91,19 @@ returns c = let at30 = at26.before.before.before.before in
       went_as (input_some a.net.start a.net.size a.w.b h) (omega arith)
           (went_then (omega (
             arith,
-            s.requires.1.log_room,
+            c.requires.1.log_room,
             length-rounds k a.net.start a.net.size a.w.b,
             E_more a.net.size
                 h,
           ))
           x.ensures.0 (went_as (ap (λ n. entry 4 a.net.start a.net.size n ∷ []) b) refl y.ensures.0)),
       λ j l.
-          let marks : List ℕ = marks_in k x.new.1.0 (replicate j 0) in
-          ap (λ (ms : List ℕ). state y.new.vals y.new.trails ms x.new.1.1.1.0 y.result)
-          (sym (marks_cleared k j x.new.1.0 l))
+          let marks : List ℕ = marks_in k x.new.pairs (replicate j 0) in
+          ap (λ (ms : List ℕ). state y.new.vals y.new.trails ms x.new.bits y.result)
+          (sym (marks_cleared k j x.new.pairs l))
           ∙ y.ensures.1 marks
           ∙ ap (λ n. step4 wiring (subnetwork_of a.net n)
-          (state a.vals.now a.trails.now marks x.new.1.1.1.0 x.result)) b
+          (state a.vals.now a.trails.now marks x.new.bits x.result)) b
           ∙ ap (step4 wiring (subnetwork_of a.net a.w.b)) (x.ensures.1 a.trails.now j l)
           ∙ steps_some wiring (subnetwork_of a.net a.w.b) (unmarked j a.vals.now a.trails.now a.bits.now a.w) h,
     )

@@ -28,71 +28,65 @@ pub unmark-requires : goal.unmark-requires
 unmark-requires c = (omega (arith, small c.requires.1 c.requires.0), c.requires.2)
 
 pub rounds-x-requires : goal.rounds-x-requires
-rounds-x-requires c = let s = c.before.before.before.before.before.before.before.before.before.before.before.before.before.before.before in
-    let a = s.args in
+rounds-x-requires c = let a = c.args in
     let m = a.net.size in
-    let u = c.before.before.before.before.before.before.unmark in
-    let g = c.before.before.before.before.before.before.before.before.gather in
+    let u = c.unmark in
+    let g = c.gather in
     let w = c.unmarked in
-    let z = small s.requires.1 s.requires.0 in
+    let z = small c.requires.1 c.requires.0 in
     let few : up m ≤ 512 = omega (arith, z) in (
-      s.requires.0,
+      c.requires.0,
       z.0,
       z.1,
-      omega (arith, s.requires.2, u.auto.0),
-      omega (arith, s.requires.4, ap (λ (r : Walk). r.e) w.ensures),
-      small_gathered (place_of a.net) m a.vals.now g.new.0 s.requires.5 g.ensures.0,
+      omega (arith, c.requires.2, u.auto.pairs),
+      omega (arith, c.requires.4, ap (λ (r : Walk). r.e) w.ensures),
+      small_gathered (place_of a.net) m a.vals.now g.new.row c.requires.5 g.ensures.0,
       g.ensures.1,
       record {
-        numbered = unmarked_numbered (up m) u.new.0 few u.ensures;
+        numbered = unmarked_numbered (up m) u.new.pairs few u.ensures;
         any_is = ap (λ (r : Walk). r.any) w.ensures ∙ sym
-            (ap (λ (n : Bool). digit (not n)) (unmarked_none (up m) u.new.0 few u.ensures));
-        f_below = omega (arith, s.requires.6, ap (λ (r : Walk). r.f) w.ensures);
-        c_below = omega (arith, s.requires.7, ap (λ (r : Walk). r.c) w.ensures);
+            (ap (λ (n : Bool). digit (not n)) (unmarked_none (up m) u.new.pairs few u.ensures));
+        f_below = omega (arith, c.requires.6, ap (λ (r : Walk). r.f) w.ensures);
+        c_below = omega (arith, c.requires.7, ap (λ (r : Walk). r.c) w.ensures);
       },
-      omega (arith, s.requires.8, ap (λ (r : Walk). r.b) w.ensures),
+      omega (arith, c.requires.8, ap (λ (r : Walk). r.b) w.ensures),
     )
 
 pub overflow_sub-k : goal.overflow_sub-k
-overflow_sub-k c = let at21 = at13.before.before.before.before.before.before.before.before in
-    let s = at21 in omega (arith, s.requires.0)
+overflow_sub-k c = omega (arith, c.requires.0)
 
 pub give_bits-requires : goal.give_bits-requires
 unfolding Numbered
-give_bits-requires c = let at22 = at13.before.before.before.before.before.before.before.before.before in
-    let s = at22 in
-    let r = c.before.before.before.before.before.before.rounds in
-    let u = c.before.before.before.before.before.before.before.before.before.before.before.before.before.unmark in
+give_bits-requires c = let r = c.rounds-x in
+    let u = c.unmark in
     let N = r.ensures.1.numbered in (
-      omega (arith, small s.requires.1 s.requires.0, s.requires.2, u.auto.0, r.auto.1.0),
-      s.requires.3,
+      omega (arith, small c.requires.1 c.requires.0, c.requires.2, u.auto.pairs, r.auto.pairs),
+      c.requires.3,
       λ i l. (N i
-          (omega (arith, l, s.requires.0))).1,
+          (omega (arith, l, c.requires.0))).1,
     )
 
 pub returns : goal.returns
-returns c = let at25 = at13.before.before.before.before.before.before.before.before.before.before.before.before in
-    let s = at25 in
-    let a = s.args in
+returns c = let a = c.args in
     let k = up a.net.size in
     let v = c.give_bits in
-    let r = c.before.before.before.before.before.before.before.before.before.rounds in
-    let w = c.before.before.before.before.before.before.before.before.before.before.unmarked in
-    let u = at16.unmark in
-    let g = at18.gather in
-    let few : k ≤ 512 = omega (arith, small s.requires.1 s.requires.0) in (
+    let r = c.rounds-x in
+    let w = c.unmarked in
+    let u = c.unmark in
+    let g = c.gather in
+    let few : k ≤ 512 = omega (arith, small c.requires.1 c.requires.0) in (
       went_from a.w w.result (ap (λ (x : Walk). x.e) w.ensures) (ap (λ (x : Walk). x.b) w.ensures)
           (went_as (ap (λ (x : Walk). rounds k a.net.start a.net.size x.b) w.ensures) refl r.ensures.0),
       λ ts j h.
           let ms : List ℕ = replicate {A = ℕ} j 0 in
           let of : List ℕ → List ℕ → Walk → State = λ marks bits x. state a.vals.now ts marks bits x in
-          ap (λ (bits : List ℕ). of (marks_in k r.new.1.0 ms) bits r.result) v.ensures
+          ap (λ (bits : List ℕ). of (marks_in k r.new.pairs ms) bits r.result) v.ensures
           ∙ r.ensures.2 (place_of a.net) a.vals.now ts ms a.bits.now a.w.b g.ensures.0
           (omega (arith, h, length-replicate {A = ℕ} j 0))
           ∙ ap (rounds_of (wiring_of a.net.topology) (subnetwork_of a.net a.w.b) k)
-          (ap (λ (marks : List ℕ). of marks (bits_in a.w.b (k - 1) u.new.0 a.bits.now) w.result)
-          (unmarked_marks k u.new.0 few u.ensures j)
+          (ap (λ (marks : List ℕ). of marks (bits_in a.w.b (k - 1) u.new.pairs a.bits.now) w.result)
+          (unmarked_marks k u.new.pairs few u.ensures j)
           ∙ ap (λ (bits : List ℕ). of ms bits w.result)
-          (unmarked_bits k u.new.0 few u.ensures a.w.b (k - 1) a.bits.now (omega arith))
+          (unmarked_bits k u.new.pairs few u.ensures a.w.b (k - 1) a.bits.now (omega arith))
           ∙ ap (of ms a.bits.now) w.ensures),
     )

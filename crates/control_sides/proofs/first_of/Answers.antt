@@ -7,8 +7,8 @@ use Rattle.control_sides.proofs.first_of.Goals as goal
 
 pub returns-in-Paper : goal.returns-in-Paper
 unfolding wiring_of
-returns-in-Paper c = rw c.enum_told-1.given.1
+returns-in-Paper c = rw c.in-Paper.is
 
 pub returns-in-Neighbour : goal.returns-in-Neighbour
 unfolding wiring_of
-returns-in-Neighbour c = rw c.enum_told-in-Neighbour-1.given.1 (omega arith)
+returns-in-Neighbour c = rw c.in-Neighbour.is (omega arith)

@@ -14,8 +14,8 @@ overflow_sub-result c = let a = c.args in rw c.at_least.ensures (pairs a.k a.p).
 
 pub returns-in-Paper : goal.returns-in-Paper
 unfolding wiring_of
-returns-in-Paper c = let a = c.args in rw (c.enum_told-1.given.1, c.at_least.ensures) (pairs a.k a.p).across
+returns-in-Paper c = let a = c.args in rw (c.in-Paper.is, c.at_least.ensures) (pairs a.k a.p).across
 
 pub returns-in-Neighbour : goal.returns-in-Neighbour
 unfolding wiring_of
-returns-in-Neighbour c = let a = c.args in rw c.enum_told-in-Neighbour-1.given.1 (neighbours a.k a.p).across
+returns-in-Neighbour c = let a = c.args in rw c.in-Neighbour.is (neighbours a.k a.p).across

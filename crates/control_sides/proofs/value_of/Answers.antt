@@ -15,8 +15,8 @@ pub returns-in-Paper : goal.returns-in-Paper
 unfolding wiring_of
 returns-in-Paper c = let a = c.args in
     let q = regained a.k a.v a.s c.mask.result c.mask.ensures c.requires.2 (omega (arith, c.requires.0)) in
-    rw c.enum_told-1.given.1 q.1
+    rw c.in-Paper.is q.1
 
 pub returns-in-Neighbour : goal.returns-in-Neighbour
 unfolding wiring_of
-returns-in-Neighbour c = let a = c.args in rw c.enum_told-in-Neighbour-1.given.1 (doubled a.k a.v a.s c.requires.2)
+returns-in-Neighbour c = let a = c.args in rw c.in-Neighbour.is (doubled a.k a.v a.s c.requires.2)

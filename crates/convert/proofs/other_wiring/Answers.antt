@@ -6,8 +6,8 @@ use Rattle.convert.proofs.other_wiring.Goals as goal
 
 pub returns-in-Paper : goal.returns-in-Paper
 unfolding across
-returns-in-Paper c = rw c.enum_told-1.given.1
+returns-in-Paper c = rw c.in-Paper.is
 
 pub returns-in-Neighbour : goal.returns-in-Neighbour
 unfolding across
-returns-in-Neighbour c = rw c.enum_told-in-Neighbour-1.given.1
+returns-in-Neighbour c = rw c.in-Neighbour.is

@@ -10,41 +10,38 @@ use Rattle.exchange_blocks.proofs.exchange32.Goals as goal
 pub loop-j-init : goal.loop-j-init
 loop-j-init c = (
   omega arith,
-  half_none c.before.before.before.before.before.args.s c.take32-x.result
-      c.before.before.take32.result,
+  half_none c.args.s c.take32-x.result
+      c.take32-y.result,
 )
 
 pub bounds-y-j-in-loop-j : goal.bounds-y-j-in-loop-j
 bounds-y-j-in-loop-j c = omega (arith, c.loop-j.invariant.1.long_y)
 
 pub loop-j-preserved : goal.loop-j-preserved
-loop-j-preserved c = let k = ty.before.before in
-    let s = k.before in
-    let a = s.args in
+loop-j-preserved c = let a = c.args in
     let j = c.loop-j.j in
     let h = c.loop-j.invariant.1 in
     let x = get_or c.loop-j.x j 0 in
     let y = get_or c.loop-j.y j 0 in
     let low : x ≡ get_or c.take32-x.result j 0 = h.left_x j (omega arith) in
-    let high : y ≡ get_or ty.take32.result j 0 = h.left_y j (omega arith) in
-    let byte = (k.slice-known.given (a.a + j)).fits in
+    let high : y ≡ get_or c.take32-y.result j 0 = h.left_y j (omega arith) in
+    let byte = (c.slice_known-1.given (a.a + j)).fits in
     let small : x < 256 = omega (arith, byte, low, c.take32-x.ensures.1 j (omega arith)) in
     let m = masked_byte a.s x y c.wrapping_sub_u8.result c.wrapping_add_u8.result c.wrapping_sub_u8-in-loop-j.result
-    s.requires.0 small c.wrapping_sub_u8.type-inv c.wrapping_sub_u8-in-loop-j.type-inv
+    c.requires.0 small c.wrapping_sub_u8.type-inv c.wrapping_sub_u8-in-loop-j.type-inv
     c.wrapping_sub_u8.ensures c.wrapping_add_u8.ensures c.wrapping_sub_u8-in-loop-j.ensures in
     let p : Picked a.s x y c.wrapping_add_u8.result c.wrapping_sub_u8-in-loop-j.result = record { lower = m.0; upper = m.1 } in (
       omega arith,
-      half_more a.s j c.take32-x.result ty.take32.result c.loop-j.x c.loop-j.y
+      half_more a.s j c.take32-x.result c.take32-y.result c.loop-j.x c.loop-j.y
           c.wrapping_add_u8.result c.wrapping_sub_u8-in-loop-j.result (omega (arith, c.take32-x.ensures.0))
-          (omega (arith, ty.take32.ensures.0)) h (taken a.s low high p),
+          (omega (arith, c.take32-y.ensures.0)) h (taken a.s low high p),
     )
 
 pub returns : goal.returns
-returns c = let s = ty.before.before.before in
-    let a = s.args in
+returns c = let a = c.args in
     let h = c.loop-j.invariant.1 in
     let all : c.loop-j.j ≡ 32 = omega arith in
     c.put32-2.ensures ∙ ap (written 32 a.a (λ i. get_or c.loop-j.x i 0)) c.put32.ensures
     ∙ parts_switched 32 a.a a.gap a.s a.blocks.now (λ i. get_or c.loop-j.x i 0) (λ i. get_or c.loop-j.y i 0)
-    s.requires.0 s.requires.1
-    (λ i m. taken a.s (c.take32-x.ensures.1 i m) (ty.take32.ensures.1 i m) (h.done i (omega arith)))
+    c.requires.0 c.requires.1
+    (λ i m. taken a.s (c.take32-x.ensures.1 i m) (c.take32-y.ensures.1 i m) (h.done i (omega arith)))

@@ -6,9 +6,8 @@ use Rattle.exchange_words.proofs.Words.{numbers_switched}
 use Rattle.exchange_words.proofs.exchange2.Goals as goal
 
 pub returns : goal.returns
-returns c = let s = y.before.before.before in
-    let a = s.args in
+returns c = let a = c.args in
     c.put2-2.ensures ∙ ap (written 2 a.a (λ j. byte_of j c.switched-w.result.lower)) c.put2.ensures
-    ∙ numbers_switched 2 a.a a.gap a.s a.blocks.now c.get2-x.result y.get2.result
-    c.switched-w.result.lower c.switched-w.result.upper s.requires.0 s.requires.1
-    (λ i. (y.before.before.slice-known.given i).fits) c.get2-x.ensures.0 y.get2.ensures.0 c.switched-w.ensures
+    ∙ numbers_switched 2 a.a a.gap a.s a.blocks.now c.get2-x.result c.get2-y.result
+    c.switched-w.result.lower c.switched-w.result.upper c.requires.0 c.requires.1
+    (λ i. (c.slice_known-1.given i).fits) c.get2-x.ensures.0 c.get2-y.ensures.0 c.switched-w.ensures

@@ -5,14 +5,6 @@ use Rattle.exchange_words.specs.Words.{number}
 use Rattle.exchange_words.proofs.Written.{part_at}
 use Rattle.exchange_words.proofs.get2.Goals as goal
 
--- LEFT part-part-start : tie.Need-slice-bounds-part-start
--- LEFT part-part-start c = search rules
--- LEFT
-
--- LEFT part-part-end : tie.Need-slice-bounds-part-end
--- LEFT part-part-end c = search rules
--- LEFT
-
 pub returns : goal.returns
 unfolding number
 returns c = let a = c.args in

@@ -5,14 +5,6 @@ use Rattle.exchange_words.specs.Words.{from}
 use Rattle.exchange_words.proofs.Words.{number-front, number-part, number_four}
 use Rattle.exchange_words.proofs.get4.Goals as goal
 
--- LEFT part-part-start : tie.Need-slice-bounds-part-start
--- LEFT part-part-start c = search rules
--- LEFT
-
--- LEFT part-part-end : tie.Need-slice-bounds-part-end
--- LEFT part-part-end c = search rules
--- LEFT
-
 pub returns : goal.returns
 returns c = let a = c.args in
     let k = length a.bytes.now - a.at in

@@ -6,14 +6,6 @@ use Rattle.exchange_words.specs.Words.{byte_of, written}
 use Rattle.exchange_words.proofs.Written.{part-written}
 use Rattle.exchange_words.proofs.put2.Goals as goal
 
--- LEFT part-part-start : tie.Need-slice-bounds-part-start
--- LEFT part-part-start c = search rules
--- LEFT
-
--- LEFT part-part-end : tie.Need-slice-bounds-part-end
--- LEFT part-part-end c = search rules
--- LEFT
-
 pub bounds-part-1 : goal.bounds-part-1
 bounds-part-1 c = simp length-set (omega arith)
 

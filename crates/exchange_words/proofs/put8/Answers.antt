@@ -7,14 +7,6 @@ use Rattle.exchange_words.proofs.Written.{part_more}
 use Rattle.exchange_words.proofs.Words.{byte_four}
 use Rattle.exchange_words.proofs.put8.Goals as goal
 
--- LEFT part-part-start : tie.Need-slice-bounds-part-start
--- LEFT part-part-start c = search rules
--- LEFT
-
--- LEFT part-part-end : tie.Need-slice-bounds-part-end
--- LEFT part-part-end c = search rules
--- LEFT
-
 pub returns : goal.returns
 returns c = let a = c.args in
     let k = length a.bytes.now - a.at in

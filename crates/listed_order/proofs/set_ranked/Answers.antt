@@ -10,14 +10,13 @@ use Rattle.orders_listed.proofs.OrderAt.{length_order_at, order_permutation}
 use Rattle.listed_order.proofs.set_ranked.Goals as goal
 
 pub set_order-requires : goal.set_order-requires
-set_order-requires c = let a = c.before.before.before.before.before.before.before.before.before.before in
-    let w = c.before.before.before.before.before.write-order in
-    let n = length a.args.order.now in
-    let e : w.new.1.0 ≡ order_at n a.args.r = w.ensures in
-    let l : length w.new.1.0 ≡ n = ap length e ∙ length_order_at n a.args.r in (
-      omega (arith, l, a.requires.0),
-      rw (l, e) (order_permutation n a.args.r a.requires.1),
-      a.requires.2 ∙ ap W (sym l),
-      a.requires.3,
-      rw l a.requires.4,
+set_order-requires c = let w = c.write_order in
+    let n = length c.args.order.now in
+    let e : w.new.order.0 ≡ order_at n c.args.r = w.ensures in
+    let l : length w.new.order.0 ≡ n = ap length e ∙ length_order_at n c.args.r in (
+      omega (arith, l, c.requires.0),
+      rw (l, e) (order_permutation n c.args.r c.requires.1),
+      c.requires.2 ∙ ap W (sym l),
+      c.requires.3,
+      rw l c.requires.4,
     )

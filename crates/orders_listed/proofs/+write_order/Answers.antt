@@ -40,12 +40,12 @@ returns-then-n-eq0 t c = let e : length c.args.order.now ≡ 0 = omega (arith, c
     order_none c.args.order.now c.args.r e
 
 pub count_orders-f-requires : goal.count_orders-f-requires
-count_orders-f-requires t c = omega (arith, c.requires.1.0)
+count_orders-f-requires t c = omega (arith, c.requires.0)
 
 pub first_digit-d-requires : goal.first_digit-d-requires
 first_digit-d-requires t c = let n = length c.args.order.now in
     let f : c.count_orders-f.result ≡ factorial (n - 1) = omega (arith, c.count_orders-f.ensures.0) in
-    (c.requires.1.0, c.count_orders-f.ensures.1, rw f (more n c.args.r (omega arith) c.requires.1.1))
+    (c.requires.0, c.count_orders-f.ensures.1, rw f (more n c.args.r (omega arith) c.requires.1))
 
 pub overflow_mul-d : goal.overflow_mul-d
 overflow_mul-d t c = omega (arith, used (begun t c))
@@ -56,74 +56,20 @@ overflow_sub-r t c = used (begun t c)
 pub slice_bounds-write_order-count : goal.slice_bounds-write_order-count
 slice_bounds-write_order-count t c = rw (starts (begun t c)) (omega arith)
 
--- LEFT write-order-part-write-order-start : (t : ℕ) → write-order-lts.Need-slice-bounds-write-order-start (
--- LEFT   count-orders-reads.Asked,
--- LEFT   count-orders-reads.Learnt,
--- LEFT   first-digit-reads.Asked,
--- LEFT   first-digit-reads.Learnt,
--- LEFT   write-order-below t,
--- LEFT   write-order.Post,
--- LEFT   make-way-reads.Asked,
--- LEFT   make-way-reads.Learnt,
--- LEFT ) (write-order-at t) write-order.Post
--- LEFT write-order-part-write-order-start t c = write-order-sub-write-order-2 t c
--- LEFT
-
--- LEFT write-order-part-write-order-end : (t : ℕ) → write-order-lts.Need-slice-bounds-write-order-end (
--- LEFT   count-orders-reads.Asked,
--- LEFT   count-orders-reads.Learnt,
--- LEFT   first-digit-reads.Asked,
--- LEFT   first-digit-reads.Learnt,
--- LEFT   write-order-below t,
--- LEFT   write-order.Post,
--- LEFT   make-way-reads.Asked,
--- LEFT   make-way-reads.Learnt,
--- LEFT ) (write-order-at t) write-order.Post
--- LEFT write-order-part-write-order-end t c =
--- LEFT     search rules
--- LEFT
-
 pub write_order-requires : goal.write_order-requires
 write_order-requires t c = let B = begun t c.before in (
   omega (arith, length-others B, c.requires.0, B.some),
-  (omega (arith, length-others B, c.requires.1.0), rw (length-others B) (left_below B)),
+  (omega (arith, length-others B, c.requires.0), rw (length-others B) (left_below B)),
 )
 
 pub slice_bounds-make_way-count : goal.slice_bounds-make_way-count
 slice_bounds-make_way-count t c = rw (continued (begun t c.before.before.before.before) c.write_order.ensures) (omega arith)
 
--- LEFT write-order-part-make-way-start : (t : ℕ) → write-order-lts.Need-slice-bounds-make-way-start (
--- LEFT   count-orders-reads.Asked,
--- LEFT   count-orders-reads.Learnt,
--- LEFT   first-digit-reads.Asked,
--- LEFT   first-digit-reads.Learnt,
--- LEFT   write-order-below t,
--- LEFT   write-order.Post,
--- LEFT   make-way-reads.Asked,
--- LEFT   make-way-reads.Learnt,
--- LEFT ) (write-order-at t) write-order.Post
--- LEFT write-order-part-make-way-start t c = write-order-sub-make-way t c
--- LEFT
-
--- LEFT write-order-part-make-way-end : (t : ℕ) → write-order-lts.Need-slice-bounds-make-way-end (
--- LEFT   count-orders-reads.Asked,
--- LEFT   count-orders-reads.Learnt,
--- LEFT   first-digit-reads.Asked,
--- LEFT   first-digit-reads.Learnt,
--- LEFT   write-order-below t,
--- LEFT   write-order.Post,
--- LEFT   make-way-reads.Asked,
--- LEFT   make-way-reads.Learnt,
--- LEFT ) (write-order-at t) write-order.Post
--- LEFT write-order-part-make-way-end t c =
--- LEFT     search rules
--- LEFT
-
 pub make_way-requires : goal.make_way-requires
 make_way-requires t c = let B = begun t d in
     let ys = c.write_order in (
-      omega (arith, first_small B, c.requires.1.0),
-      rw (continued B ys.ensures, lent c.first_digit-d.result ys.new.order.0) (below B ys.ensures c.requires.1.0),
+      omega (arith, first_small B, c.requires.0),
+      rw (continued B ys.ensures, lent c.first_digit-d.result ys.new.order.0) (below B ys.ensures c.requires.0),
     )
 
 pub returns : goal.returns

@@ -20,17 +20,17 @@ pub slice_bounds-fixed_points-end : goal.slice_bounds-fixed_points-end
 slice_bounds-fixed_points-end c = sym (length-take-le _ _ (omega arith))
 
 pub fixed_points-home-requires : goal.fixed_points-home-requires
-fixed_points-home-requires c = let a = c.before.before.before.before.before.args in
+fixed_points-home-requires c = let a = c.args in
     omega (arith, length-take-le a.n a.e.now (omega arith))
 
 pub returns-then-fixed-home : goal.returns-then-fixed-home
-returns-then-fixed-home c = let a = b6.before.before.args in
+returns-then-fixed-home c = let a = c.args in
     c.refuse-then-fixed-home.ensures
-    ∙ examined_number a.n a.e.now a.fixed b6.if1.false b5.first-bad.ensures c.before.before.before.before.if2.false
+    ∙ examined_number a.n a.e.now a.fixed c.if-n-gt-MOST_PLACES.false c.first_bad-low.ensures c.if-low-lt1024.false
     c.fixed_points-home.ensures c.if-fixed-home.true
 
 pub returns : goal.returns
-returns c = let a = b6.before.before.args in
+returns c = let a = c.args in
     c.accept.ensures
-    ∙ examined_good a.n a.e.now a.fixed b6.if1.false b5.first-bad.ensures c.before.before.before.before.if2.false
+    ∙ examined_good a.n a.e.now a.fixed c.if-n-gt-MOST_PLACES.false c.first_bad-low.ensures c.if-low-lt1024.false
     c.fixed_points-home.ensures c.if-fixed-home.false

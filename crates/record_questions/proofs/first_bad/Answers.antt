@@ -14,17 +14,16 @@ pub slice_bounds-first_bad_entry-end : goal.slice_bounds-first_bad_entry-end
 slice_bounds-first_bad_entry-end c = sym (length-take-le _ _ (omega arith))
 
 pub first_bad_entry-low-requires : goal.first_bad_entry-low-requires
-first_bad_entry-low-requires c = let a = c.before.before.args in
+first_bad_entry-low-requires c = let a = c.args in
     omega (arith, length-take-le a.n a.e.now (omega arith))
 
 pub loop-i-init : goal.loop-i-init
-loop-i-init c = let a = c.before.before.before.args in
+loop-i-init c = let a = c.args in
     (omega arith, sweeping_from _ _ _ (omega arith) (c.first_bad_entry-low.ensures ∙ front-bad a.n a.e.now (omega arith)))
 
 pub loop-i-preserved : goal.loop-i-preserved
-loop-i-preserved c = let b7 = c.before.before.before.before.before.before.before in
-    let at = c.loop-i in
-    let here = sym (good_past b7.args.n b7.args.e.now at.i at.invariant.0) in
+loop-i-preserved c = let at = c.loop-i in
+    let here = sym (good_past c.args.n c.args.e.now at.i at.invariant.0) in
     (omega arith, sweeping_more _ _ (omega arith) here c.sweep-low.ensures at.invariant.1)
 
 pub returns : goal.returns

@@ -13,24 +13,24 @@ use Rattle.numbers.proofs.Numbers.{value_small}
 use Rattle.sheet_reader.proofs.read_body.Goals as goal
 
 pub returns-in_default : goal.returns-in_default
-returns-in_default c = body_stops _ _ _ c.enum_told-1.given.1 c.read_row-row.ensures
+returns-in_default c = body_stops _ _ _ c.in_default.is c.read_row-row.ensures
 
 pub slice_bounds-filled-end-2 : goal.slice_bounds-filled-end-2
-slice_bounds-filled-end-2 c = let b10 = b6.before.before.before.before in
-    sym (length-take-le (numbers_for b10.args.w) b6.read-row.new.1.1.1.0 (omega (arith, b6.read-row.auto.1.1.1.0, b10.requires)))
+slice_bounds-filled-end-2 c =
+    sym (length-take-le (numbers_for c.args.w) c.read_row-row.new.values.0 (omega (arith, c.read_row-row.auto.values.0, c.requires)))
 
 pub filled-requires : goal.filled-requires
-filled-requires c = let b10 = b6.before.before.before.before in
-    (length-take-le (numbers_for b10.args.w) b6.read-row.new.1.1.1.0 (omega (arith, b6.read-row.auto.1.1.1.0, b10.requires)), b10.requires.0, λ i. rw (row_there _ _ _ c.before.before.row.given.1 b6.read-row.ensures) (numbers_fit sevens _ (value_small _) _ _ i))
+filled-requires c =
+    (length-take-le (numbers_for c.args.w) c.read_row-row.new.values.0 (omega (arith, c.read_row-row.auto.values.0, c.requires)), c.requires.0, λ i. rw (row_there _ _ _ c.in-Number.is c.read_row-row.ensures) (numbers_fit sevens _ (value_small _) _ _ i))
 
 pub returns-then-not-filled : goal.returns-then-not-filled
 returns-then-not-filled c =
-    body_fill _ _ _ c.before.before.before.before.row.given.1 c.before.before.before.before.before.before.before.before.read-row.ensures (sym (not-true _ c.if-not-filled.true) ∙ c.filled.ensures)
+    body_fill _ _ _ c.in-Number.is c.read_row-row.ensures (sym (not-true _ c.if-not-filled.true) ∙ c.filled.ensures)
 
 pub returns-then-end-input : goal.returns-then-end-input
 returns-then-end-input c =
-    body_surplus _ _ _ b5.row.given.1 b9.read-row.ensures (sym (not-false _ c.if-not-filled.false) ∙ c.filled.ensures) c.if-end-input.true
+    body_surplus _ _ _ c.in-Number.is c.read_row-row.ensures (sym (not-false _ c.if-not-filled.false) ∙ c.filled.ensures) c.if-end-input.true
 
 pub returns : goal.returns
 returns c =
-    body_done _ _ _ b5.row.given.1 b9.read-row.ensures (sym (not-false _ c.if-not-filled.false) ∙ c.filled.ensures) c.if-end-input.false
+    body_done _ _ _ c.in-Number.is c.read_row-row.ensures (sym (not-false _ c.if-not-filled.false) ∙ c.filled.ensures) c.if-end-input.false

@@ -19,7 +19,7 @@ returns-then-out-n c = let a = c.args in
 pub returns-in_default : goal.returns-in_default
 returns-in_default c = let a = c.args in
     shuffle_out a.n a.words.now a.out.now c.if-n-gt-MOST_PLACES.false c.if-out-n.false c.choose-choice.ensures
-    c.enum_told-1.given.1 c.refused-in_default.ensures
+    c.in_default.is c.refused-in_default.ensures
 
 pub slice_bounds-exchange-end : goal.slice_bounds-exchange-end
 slice_bounds-exchange-end c = sym (length-take-le _ _ (omega (arith, c.if-n-gt-MOST_PLACES.false, c.choose-choice.auto)))
@@ -31,5 +31,5 @@ exchange-requires c = let short = length-take c.args.n c.choose-choice.new.kept.
 pub returns : goal.returns
 returns c = let a = c.args in
     shuffle_done a.n a.words.now a.out.now c.if-n-gt-MOST_PLACES.false c.if-out-n.false
-    c.choose-choice.ensures c.choice-1.given.1 (omega (arith, c.if-n-gt-MOST_PLACES.false, c.choose-choice.auto))
+    c.choose-choice.ensures c.in-Enough.is (omega (arith, c.if-n-gt-MOST_PLACES.false, c.choose-choice.auto))
     c.accept.ensures c.number.ensures c.exchange.ensures

@@ -7,12 +7,12 @@ use Rattle.wirings.proofs.step.Goals as goal
 
 pub overflow_mul-result : goal.overflow_mul-result
 unfolding step_of
-overflow_mul-result c = let p = rw c.enum_told-in-Neighbour-1.given.1 at c.requires in omega (arith, p)
+overflow_mul-result c = let p = rw c.in-Neighbour.is at c.requires in omega (arith, p)
 
 pub returns-in-Paper : goal.returns-in-Paper
 unfolding step_of
-returns-in-Paper c = rw c.enum_told-1.given.1
+returns-in-Paper c = rw c.in-Paper.is
 
 pub returns-in-Neighbour : goal.returns-in-Neighbour
 unfolding step_of
-returns-in-Neighbour c = rw c.enum_told-in-Neighbour-1.given.1
+returns-in-Neighbour c = rw c.in-Neighbour.is
