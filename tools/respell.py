@@ -26,7 +26,8 @@ LIBRARY = set(
 # Words of the papers, which their readers know by the capital; and words that a rule of spelling alone would spoil.
 KEEP = {"W", "E", "L"}
 APART = {"halfAt", "inTop", "oneMore"}  # their new names stand in other crates, as names of a proof alone
-EXTRA = {"goOn": "walk_on", "Looked": "looked_up", "one_byte": "one_byte_lem", "rows_in": "rows_in_lem"}
+EXTRA = {"goOn": "walk_on", "Looked": "looked_up", "one_byte": "one_byte_lem", "rows_in": "rows_in_lem",
+         "input-bits": "input_are_bits", "output-bits": "output_are_bits"}
 
 
 def snake(word):
@@ -89,9 +90,10 @@ class Names:
                 if new != word:
                     table[word] = new
         table = {a: b for a, b in (table | EXTRA).items() if a not in KEEP and a != b}
-        # a lemma that would have its function's name gets `_lem`
+        # a lemma that would have its function's name gets `_lem`; a record's field may share the name of a function
         taken = {b for a, b in table.items() if "-" not in a} | {w for w in self.declared if w not in table}
-        return {a: b + "_lem" if "-" in a and b in taken else b for a, b in table.items()}
+        lemma = lambda a, b: "-" in a and b in taken and a not in self.fields
+        return {a: b + "_lem" if lemma(a, b) else b for a, b in table.items()}
 
 
 def fields(text):
@@ -145,6 +147,7 @@ def main(args):
         new[b].add(a)
     there = names.declared
     bad = [(b, olds) for b, olds in sorted(new.items()) if len(olds) > 1 or (b in there and b not in table and not olds <= APART)]
+    bad = [(b, olds) for b, olds in bad if sum(o not in names.fields for o in olds) > 1 or not olds & names.fields]
     for b, olds in bad:
         print("fall together:", ", ".join(sorted(olds)), "->", b, "(stands already)" if b in there else "")
     if check:

@@ -82,13 +82,13 @@ canonical_carries_of {w} L {m} (some {top = top} {bottom = bottom} two t u) o O 
       all,
       drop_at C.input after_input (up m - 1) S.input_count,
       drop_at C.top after_top (switch_count top) (canonical_count w top _ C.top C.in_top),
-      drop_at C.bottom after_bottom (switch_count bottom) (canonical_count w bottom _ C.bottom C.in_bottom_lem),
+      drop_at C.bottom after_bottom (switch_count bottom) (canonical_count w bottom _ C.bottom C.in_bottom),
     )
     (level L m two o O C.input C.output after_input rest S
     (goes_to w top after_input)
     (goes_to w bottom after_top)
     (canonical_carries_of L t _ (top_permutation L m (omega arith) o O C.input S.input_count S.apart) C.top after_top C.in_top)
-    (canonical_carries_of L u _ (bottom_permutation L m (omega arith) o O C.input S.input_count S.apart) C.bottom after_bottom C.in_bottom_lem)
+    (canonical_carries_of L u _ (bottom_permutation L m (omega arith) o O C.input S.input_count S.apart) C.bottom after_bottom C.in_bottom)
     q
     h)
 

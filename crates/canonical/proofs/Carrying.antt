@@ -26,7 +26,7 @@ use Rattle.canonical.specs.Obeys.{Obeys}
 use Rattle.canonical.proofs.Sides.{bit_at, bit_at_past, turn}
 use Rattle.canonical.proofs.Held.{entry_in}
 use Rattle.canonical.proofs.Halves.{feeder, feeder-enters, half_at, imagined, top_permutation, bottom_permutation}
-use Rattle.canonical.proofs.Only.{output_bits_lem}
+use Rattle.canonical.proofs.Only.{output_are_bits}
 use Rattle.canonical.proofs.Through.{entered_lies, leaves_at, leaves, through-leaves}
 
 obeys_count : (w : Wiring) (net : Network) (o bits : List ℕ) → Obeys w net o bits → length bits ≡ switch_count net
@@ -35,7 +35,7 @@ obeys_count w wires o bits C = ap length C
 obeys_count w (split m top bottom) o bits C =
     ap length C.in_sequence
     ∙ simp length-append
-    (omega (arith, C.input_count, C.output_count, obeys_count w top _ C.top_bits C.in_top, obeys_count w bottom _ C.bottom_bits C.in_bottom_lem))
+    (omega (arith, C.input_count, C.output_count, obeys_count w top _ C.top_bits C.in_top, obeys_count w bottom _ C.bottom_bits C.in_bottom))
 
 -- a bit that turns a side to true
 turn_true : (c s : Bool) → turn c s ≡ true → c ≡ not s
@@ -159,7 +159,7 @@ carrying_canonical_of {w} L {m} (some {top = top} {bottom = bottom} two t u) o O
       all,
       drop_at a after_input (up m - 1) C.input_count,
       drop_at C.top_bits after_top (switch_count top) (obeys_count w top _ C.top_bits C.in_top),
-      drop_at C.bottom_bits after_bottom (switch_count bottom) (obeys_count w bottom _ C.bottom_bits C.in_bottom_lem),
+      drop_at C.bottom_bits after_bottom (switch_count bottom) (obeys_count w bottom _ C.bottom_bits C.in_bottom),
     ) at (goes q h) in
     let held = leaves-held L m o O a b after_input rest C.input_count C.output_count f g
     (across-below L input output t after_input) (across-below L input output u after_top) parted in
@@ -173,14 +173,14 @@ carrying_canonical_of {w} L {m} (some {top = top} {bottom = bottom} two t u) o O
       settled = record {
         input_count = C.input_count;
         output_count = C.output_count;
-        input_bits_lem = C.input_bits_lem;
+        input_are_bits = C.input_are_bits;
         apart = A;
         lowest_straight = C.lowest_straight;
-        finished = carries_finished L m two o O a b C.input_count C.output_count f g held C.output_bits_lem;
+        finished = carries_finished L m two o O a b C.input_count C.output_count f g held C.output_are_bits;
       };
       in_top = carrying_canonical_of L t _ (top_permutation L m (omega arith) o O a C.input_count A) C.top_bits after_top C.in_top
           (carries_top L m two o O a b C.input_count C.output_count f g held);
-      in_bottom_lem = carrying_canonical_of L u _ (bottom_permutation L m (omega arith) o O a C.input_count A) C.bottom_bits after_bottom C.in_bottom_lem
+      in_bottom = carrying_canonical_of L u _ (bottom_permutation L m (omega arith) o O a C.input_count A) C.bottom_bits after_bottom C.in_bottom
           (carries_bottom L m two o O a b C.input_count C.output_count f g held);
     }
 
@@ -208,11 +208,11 @@ canonical_obeys_of {w} L {m} (some two t u) o O bits C =
       in_sequence = C.in_sequence;
       input_count = S.input_count;
       output_count = S.output_count;
-      input_bits_lem = S.input_bits_lem;
-      output_bits_lem = output_bits_lem L m two o O C.input C.output S;
+      input_are_bits = S.input_are_bits;
+      output_are_bits = output_are_bits L m two o O C.input C.output S;
       lowest_straight = S.lowest_straight;
       in_top = canonical_obeys_of L t _ (top_permutation L m (omega arith) o O C.input S.input_count S.apart) C.top C.in_top;
-      in_bottom_lem = canonical_obeys_of L u _ (bottom_permutation L m (omega arith) o O C.input S.input_count S.apart) C.bottom C.in_bottom_lem;
+      in_bottom = canonical_obeys_of L u _ (bottom_permutation L m (omega arith) o O C.input S.input_count S.apart) C.bottom C.in_bottom;
     }
 
 pub canonical_obeys : {w : Wiring} → Lawful w → (n : ℕ) (o : List ℕ) → IsPermutation n o

@@ -32,7 +32,7 @@ canonical_count w (split m top bottom) o bits C =
     let S = C.settled in
     ap length C.in_sequence
     ∙ simp length-append
-    (omega (arith, S.input_count, S.output_count, canonical_count w top _ C.top C.in_top, canonical_count w bottom _ C.bottom C.in_bottom_lem))
+    (omega (arith, S.input_count, S.output_count, canonical_count w top _ C.top C.in_top, canonical_count w bottom _ C.bottom C.in_bottom))
 
 pub canonical_length : (w : Wiring) (n : ℕ) (o bits : List ℕ) → Canonical w (network n) o bits → length bits ≡ W n
 canonical_length w n o bits C = canonical_count w (network n) o bits C ∙ count_is n
@@ -70,12 +70,12 @@ module _ {w : Wiring} (L : Lawful w) (m : ℕ) (two : 2 ≤ m) (o : List ℕ) (O
       let la = A.input_count in
       let lc = C.input_count in
       ext_get_or 0 a c (la ∙ sym lc)
-      (λ i l. same_bit (get_or a i 0) (get_or c i 0) (A.input_bits_lem i) (C.input_bits_lem i)
+      (λ i l. same_bit (get_or a i 0) (get_or c i 0) (A.input_are_bits i) (C.input_are_bits i)
       (unique k (mate w k o) (matching L k m f o O) (bit_at a) (bit_at c)
       (apart_proper L k m f o O a A.apart)
       (apart_proper L k m f o O c C.apart)
-      (lowest_ruled L k m f o O a (omega arith) A.input_bits_lem A.lowest_straight)
-      (lowest_ruled L k m f o O c (omega arith) C.input_bits_lem C.lowest_straight)
+      (lowest_ruled L k m f o O a (omega arith) A.input_are_bits A.lowest_straight)
+      (lowest_ruled L k m f o O c (omega arith) C.input_are_bits C.lowest_straight)
       i
       (omega arith)))
 
@@ -94,8 +94,8 @@ module _ {w : Wiring} (L : Lawful w) (m : ℕ) (two : 2 ≤ m) (o : List ℕ) (O
       let ld = C.output_count in
       ext_get_or 0 b d (lb ∙ sym ld) (λ j l. output-at a b A j (omega arith) ∙ sym (output-at a d C j (omega arith)))
 
-  pub output_bits_lem : (a b : List ℕ) → Settled w m o a b → Bits b
-  output_bits_lem a b A =
+  pub output_are_bits : (a b : List ℕ) → Settled w m o a b → Bits b
+  output_are_bits a b A =
       let lb = A.output_count in
       bits_within b (λ j l. rw (output-at a b A j (omega arith)) (bit_below (half a (seat w (up m) o (j, true)))))
 
@@ -129,8 +129,8 @@ module _ {w : Wiring} (L : Lawful w) (m : ℕ) (two : 2 ≤ m) (o : List ℕ) (O
               (bottom_permutation L m (omega arith) o O B.input S.input_count S.apart)
               A.bottom
               B.bottom
-              (subst (λ i. Bottom (order_of_half w (up m) o i true (down m)) A.bottom) input A.in_bottom_lem)
-              B.in_bottom_lem
+              (subst (λ i. Bottom (order_of_half w (up m) o i true (down m)) A.bottom) input A.in_bottom)
+              B.in_bottom
 
           output : A.output ≡ B.output
           output = same_output B.input A.output B.output S B.settled
@@ -156,11 +156,11 @@ canonical_bits_of L (none h) o O a A = bits_within a (λ i l. absurd (omega (ari
 canonical_bits_of {w} L {m} (some {top = top} {bottom = bottom} h t u) o O a A =
     let S = A.settled in
     subst Bits (sym A.in_sequence)
-    (bits_append A.input _ S.input_bits_lem
+    (bits_append A.input _ S.input_are_bits
     (bits_append A.top _ (canonical_bits_of L t _ (top_permutation L m (omega arith) o O A.input S.input_count S.apart) A.top A.in_top)
     (bits_append A.bottom A.output
-    (canonical_bits_of L u _ (bottom_permutation L m (omega arith) o O A.input S.input_count S.apart) A.bottom A.in_bottom_lem)
-    (output_bits_lem L m h o O A.input A.output S))))
+    (canonical_bits_of L u _ (bottom_permutation L m (omega arith) o O A.input S.input_count S.apart) A.bottom A.in_bottom)
+    (output_are_bits L m h o O A.input A.output S))))
 
 pub canonical_bits : {w : Wiring} → Lawful w → (n : ℕ) (o : List ℕ) → IsPermutation n o
     → (a : List ℕ) → Canonical w (network n) o a → Bits a

@@ -61,7 +61,7 @@ module _ {w : Wiring} (L : Lawful w) (m : ℕ) (two : 2 ≤ m) (o : List ℕ) (O
           record {
             input_count = count;
             output_count = n;
-            input_bits_lem = B;
+            input_are_bits = B;
             apart = done-apart;
             lowest_straight = done-lowest;
             finished = F;
@@ -87,7 +87,7 @@ module _ {w : Wiring} (L : Lawful w) (m : ℕ) (two : 2 ≤ m) (o : List ℕ) (O
       let Z = walk_lengths k k (mate w k o) (omega arith) in
       let M = matching L k m (fits L m (omega arith) o O) o O in
       let e = Z.of_bits in
-      done-settled (stage x) (walk-done k (mate w k o) (omega arith) M) x.bits (omega arith) Z.are_bits_lem (λ i _. refl)
+      done-settled (stage x) (walk-done k (mate w k o) (omega arith) M) x.bits (omega arith) Z.are_bits (λ i _. refl)
       (outputs w m o x.bits)
       (length-tabulate (λ j. cond (half x.bits (seat w k o (j, true))) 0 1) (down m))
       (outputs_finish x.bits)
@@ -108,7 +108,7 @@ canonical_exists_of {w} L {m} (some {top = top} {bottom = bottom} h t u) o O =
       in_sequence = refl;
       settled = S;
       in_top = canonical_exists_of L t (order_of_half w k o input false k) (top_permutation L m (omega arith) o O input S.input_count S.apart);
-      in_bottom_lem = canonical_exists_of L u (order_of_half w k o input true (down m)) (bottom_permutation L m (omega arith) o O input S.input_count S.apart);
+      in_bottom = canonical_exists_of L u (order_of_half w k o input true (down m)) (bottom_permutation L m (omega arith) o O input S.input_count S.apart);
     }
 
 -- every order has a canonical setting

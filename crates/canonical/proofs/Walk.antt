@@ -86,7 +86,7 @@ true_same_side p q e = rw (← e, eq-eqb p.0 p.0 refl, beq_refl p.1) refl
 pub record Lengths (k : ℕ) (x : Walk) : Type 0 where
   pub of_marks : length x.marks ≡ k
   pub of_bits : suc (length x.bits) ≡ k
-  pub are_bits_lem : Bits x.bits
+  pub are_bits : Bits x.bits
 
 set_bits : (bits : List ℕ) (i : ℕ) (t : Bool) → Bits bits → Bits (set bits i (cond t 0 1))
 unfolding Bits
@@ -102,7 +102,7 @@ module _ (k : ℕ) (mate : Side → Side) (x : Walk) (Z : Lengths k x) where
       record {
         of_marks = rw length-set Z.of_marks;
         of_bits = rw length-set Z.of_bits;
-        are_bits_lem = set_bits x.bits (mate x.f).0 (mate x.f).1 Z.are_bits_lem;
+        are_bits = set_bits x.bits (mate x.f).0 (mate x.f).1 Z.are_bits;
       }
 
   module _ (l : (mate x.f).0 < k) where
@@ -139,7 +139,7 @@ walk_lengths zero k mate l =
     record {
       of_marks = length-replicate k false;
       of_bits = rw (length-replicate {A = ℕ} (k - 1) 0) (omega arith);
-      are_bits_lem = λ i. rw (get_d_blank {A = ℕ} (k - 1) i 0) (omega arith);
+      are_bits = λ i. rw (get_d_blank {A = ℕ} (k - 1) i 0) (omega arith);
     }
 walk_lengths (suc n) k mate l = round_lengths k mate (walk n k mate) (walk_lengths n k mate l)
 

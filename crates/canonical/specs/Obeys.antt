@@ -16,11 +16,11 @@ pub record ObeysWith (w : Wiring) (m : ℕ) (Top Bottom : List ℕ → List ℕ 
   pub in_sequence : bits ≡ input_bits ++ (top_bits ++ (bottom_bits ++ output_bits))
   pub input_count : length input_bits ≡ up m - 1
   pub output_count : length output_bits ≡ down m
-  pub input_bits_lem : Bits input_bits
-  pub output_bits_lem : Bits output_bits
+  pub input_are_bits : Bits input_bits
+  pub output_are_bits : Bits output_bits
   pub lowest_straight : LowestStraight w (up m) o input_bits
   pub in_top : Top (order_of_half w (up m) o input_bits false (up m)) top_bits
-  pub in_bottom_lem : Bottom (order_of_half w (up m) o input_bits true (down m)) bottom_bits
+  pub in_bottom : Bottom (order_of_half w (up m) o input_bits true (down m)) bottom_bits
 
 -- the house rule in every network
 unfoldable pub Obeys : Wiring → Network → List ℕ → List ℕ → Type 0

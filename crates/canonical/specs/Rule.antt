@@ -65,7 +65,7 @@ order_of_half w k o input t c = tabulate (λ i. (held w k o (i, half input (i, t
 pub record Settled (w : Wiring) (m : ℕ) (o input output : List ℕ) : Type 0 where
   pub input_count : length input ≡ up m - 1
   pub output_count : length output ≡ down m
-  pub input_bits_lem : Bits input
+  pub input_are_bits : Bits input
   pub apart : Apart w (up m) o input
   pub lowest_straight : LowestStraight w (up m) o input
   pub finished : Finished w m o input output
@@ -79,7 +79,7 @@ pub record SettledWith (w : Wiring) (m : ℕ) (Top Bottom : List ℕ → List �
   pub in_sequence : bits ≡ input ++ (top ++ (bottom ++ output))
   pub settled : Settled w m o input output
   pub in_top : Top (order_of_half w (up m) o input false (up m)) top
-  pub in_bottom_lem : Bottom (order_of_half w (up m) o input true (down m)) bottom
+  pub in_bottom : Bottom (order_of_half w (up m) o input true (down m)) bottom
 
 -- The bits are the canonical setting of the order (01: the house setting). In a network of 2 places there is one pair, the
 -- last: so the rule asks nothing more of it than to carry.

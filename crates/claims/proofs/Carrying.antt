@@ -44,10 +44,10 @@ module _
           places = small;
           low = F.some_width;
           high = F.width_small;
-          whole = F.blocks_fill_lem;
+          whole = F.blocks_fill;
           count = S.count;
           words = r;
-          settings = S.are_bits_lem;
+          settings = S.are_bits;
         }))
 
     -- what is left is as many blocks
@@ -56,7 +56,7 @@ module _
         record {
           some_width = F.some_width;
           width_small = F.width_small;
-          blocks_fill_lem = ap length (moves d).buffer ∙ length-moved_by (lawful t) d n width bits blocks F.blocks_fill_lem;
+          blocks_fill = ap length (moves d).buffer ∙ length-moved_by (lawful t) d n width bits blocks F.blocks_fill;
         }
 
 -- ---- an order
@@ -69,7 +69,7 @@ module _ (t : Topology) (n : ℕ) (order : List ℕ) (small : n ≤ 1024) (O : I
   house_setting =
       record {
         count = canonical_length (wiring_of t) n order house.setting house.canonical;
-        are_bits_lem = canonical_bits (lawful t) n order O house.setting house.canonical;
+        are_bits = canonical_bits (lawful t) n order O house.setting house.canonical;
       }
 
   -- ---- set
@@ -106,14 +106,14 @@ module _ (t : Topology) (n : ℕ) (order : List ℕ) (small : n ≤ 1024) (O : I
         → block n width (outcome_of (mix t n width blocks house.setting log)).buffer (get_or order i 0) ≡ block n width blocks i
     unfolding Carries
     carried i l =
-        rw ((by_house mixing).buffer, cut_moved (lawful t) n width house.setting blocks F.blocks_fill_lem)
+        rw ((by_house mixing).buffer, cut_moved (lawful t) n width house.setting blocks F.blocks_fill)
         (canonical_carries (lawful t) n order O house.setting house.canonical [] (cut width n blocks) (length_cut width n blocks) i l)
 
     brought : (i : ℕ) → i < n
         → block n width (outcome_of (return t n width blocks house.setting log)).buffer i ≡ block n width blocks (get_or order i 0)
     unfolding BringsHome
     brought i l =
-        rw ((by_house returning).buffer, cut-moved_back (lawful t) n width house.setting blocks F.blocks_fill_lem)
+        rw ((by_house returning).buffer, cut-moved_back (lawful t) n width house.setting blocks F.blocks_fill)
         (canonical_brings_home (lawful t) n order O house.setting house.canonical [] (cut width n blocks)
         (length_cut width n blocks) i l)
 
@@ -125,7 +125,7 @@ module _ (t : Topology) (n : ℕ) (order : List ℕ) (small : n ≤ 1024) (O : I
         let filled : Filled n width mixed = moved_fill t n house.setting small house_setting width blocks log F r mixing in
         (moves t n house.setting small house_setting width mixed other filled s returning).buffer
         ∙ ap (moved_back (wiring_of t) n width house.setting) (by_house mixing).buffer
-        ∙ moved_back-moved (lawful t) n width house.setting blocks F.blocks_fill_lem
+        ∙ moved_back-moved (lawful t) n width house.setting blocks F.blocks_fill
 
   pub demand2 : Demand2 t n order
   demand2 =
@@ -146,6 +146,6 @@ pub sheets_read_back : (n : ℕ) → n ≤ 1024 → SheetsReadBack n
 sheets_read_back n small =
     record {
       sheet_written = λ bits out S r. write_accepts n bits out
-          (record { few = small; count = S.count; are_bits = S.are_bits_lem; room = r });
-      sheet_read = λ bits buffer S r. sheet_read n bits small S.count S.are_bits_lem buffer r;
+          (record { few = small; count = S.count; are_bits = S.are_bits; room = r });
+      sheet_read = λ bits buffer S r. sheet_read n bits small S.count S.are_bits buffer r;
     }

@@ -53,13 +53,13 @@ module _ (n : ℕ) (given out : List ℕ) where
         setting =
             record {
               count = eqb-true (length given) (W n) Y.1.0;
-              are_bits_lem = bits_all given (eqb-true (first_bad (is_bit given) (length given)) (length given) Y.1.1.1.0);
+              are_bits = bits_all given (eqb-true (first_bad (is_bit given) (length given)) (length given) Y.1.1.1.0);
             };
         count = eqb-true (length out) (W n) Y.1.1.0;
       }
 
   fit_yes : Fit n given out → asked ≡ all_yes
-  fit_yes F = yes_all n given out F.small F.setting.count F.count (all_bits_lem given F.setting.are_bits_lem)
+  fit_yes F = yes_all n given out F.small F.setting.count F.count (all_bits_lem given F.setting.are_bits)
 
 -- ---- what is left
 
@@ -89,7 +89,7 @@ module _ (from : Topology) (n : ℕ) (given : List ℕ) where
   to-setting =
       record {
         count = canonical_length (wiring_of (across from)) n order to house;
-        are_bits_lem = canonical_bits (lawful (across from)) n order carried to house;
+        are_bits = canonical_bits (lawful (across from)) n order carried to house;
       }
 
   same_order : order_in (across from) n (converted from n given) ≡ order_in from n given

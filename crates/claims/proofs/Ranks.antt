@@ -110,7 +110,7 @@ module _ (n : ℕ) (order : List ℕ) (small : n ≤ 6) (O : IsPermutation n ord
         (record {
           small = small;
           rank_below = once.rank_below;
-          room = R.list_room_lem;
+          room = R.list_room;
           bit_count = R.bit_count;
           log_room = R.log_room;
         })

@@ -22,13 +22,13 @@ block n width bytes i = get_or (cut width n bytes) i []
 -- a setting of n places: a 0 or a 1 for each switch
 pub record Setting (n : ℕ) (bits : List ℕ) : Type 0 where
   pub count : length bits ≡ W n
-  pub are_bits_lem : Bits bits
+  pub are_bits : Bits bits
 
 -- lent blocks: n of 1 to 256 bytes
 pub record Filled (n width : ℕ) (blocks : List ℕ) : Type 0 where
   pub some_width : 1 ≤ width
   pub width_small : width ≤ 256
-  pub blocks_fill_lem : length blocks ≡ n * width
+  pub blocks_fill : length blocks ≡ n * width
 
 -- lent logs: four words for each entry of the setter, or for each switch
 abbrev pub RoomToSet : ℕ → List ℕ → Type 0

@@ -29,7 +29,7 @@ pub record AsSet (n r : ℕ) (list bits log : List ℕ) : Type 0 where
 
 -- memory lent for an order of n places: room for it, a byte for each bit, and set's log
 pub record RoomToRank (n : ℕ) (list bits log : List ℕ) : Type 0 where
-  pub list_room_lem : n ≤ length list
+  pub list_room : n ≤ length list
   pub bit_count : length bits ≡ W n
   pub log_room : RoomToSet n log
 

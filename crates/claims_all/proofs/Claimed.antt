@@ -68,14 +68,14 @@ claimed =
       canonical_means = canonical_means;
       sheets_read_back = sheets_read_back;
       demand3 = demand3;
-      paper_calls = record { set_call_lem = paper-set; mix_call_lem = paper-mix; return_call = paper-return };
-      switch_count_lem = W_formula;
+      paper_calls = record { set_call = paper-set; mix_call = paper-mix; return_call = paper-return };
+      switch_count = W_formula;
       month = month;
       job = job;
       chart = chart;
       carried_count = record { made_true = made_true; every_order = permutation_made };
       small_orders = small_orders;
-      fair_drawing = record { each_remainder = fair; each_place = each_place; words_used = used_words; an_order_lem = drawn-permutation };
+      fair_drawing = record { each_remainder = fair; each_place = each_place; words_used = used_words; an_order = drawn-permutation };
       converter = convert_converts;
       from_the_middle = from_the_middle;
     }

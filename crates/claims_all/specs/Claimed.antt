@@ -57,8 +57,8 @@ pub record CanonicalMeans (wiring : Topology) (n : ℕ) (order : List ℕ) : Typ
 
 -- set, mix and return of 01 are those of the demands, in the paper's wiring
 pub record PaperCalls : Type 0 where
-  pub set_call_lem : (order bits log : List ℕ) → set_call order bits log ≡ outcome_of (set Paper order bits log)
-  pub mix_call_lem : (n width : ℕ) (blocks bits log : List ℕ)
+  pub set_call : (order bits log : List ℕ) → set_call order bits log ≡ outcome_of (set Paper order bits log)
+  pub mix_call : (n width : ℕ) (blocks bits log : List ℕ)
       → apply_call n width blocks bits log ≡ outcome_of (mix Paper n width blocks bits log)
   pub return_call : (n width : ℕ) (blocks bits log : List ℕ)
       → inverse_call n width blocks bits log ≡ outcome_of (return Paper n width blocks bits log)
@@ -111,7 +111,7 @@ pub record FairDrawing : Type 0 where
   pub each_place : (n i j : ℕ) → i ≤ j → j < n → words_exchanging n i j ≡ 2 ^ 32 / (n - i)
   -- 'a word .. is skipped, and the next word is tried'; and what is drawn is an order, whatever the words
   pub words_used : (n : ℕ) (words : List ℕ) → (chosen n words).enough ≡ true → UsedWords n words
-  pub an_order_lem : (n : ℕ) (words : List ℕ) → (chosen n words).enough ≡ true → IsPermutation n (order_from n words)
+  pub an_order : (n : ℕ) (words : List ℕ) → (chosen n words).enough ≡ true → IsPermutation n (order_from n words)
 
 -- ---- all of it
 
@@ -130,7 +130,7 @@ pub record Claimed : Type 0 where
   pub demand3 : (first second : Call) → Accepted first → Accepted second → Demand3 first second
   pub paper_calls : PaperCalls
   -- 'W(n) = n × L − 2^L + 1 for n ≥ 1'; the 1 is added first, since these numbers have nothing below 0
-  pub switch_count_lem : (n : ℕ) → 1 ≤ n → W n ≡ n * L (n - 1) + 1 - 2 ^ L (n - 1)
+  pub switch_count : (n : ℕ) → 1 ≤ n → W n ≡ n * L (n - 1) + 1 - 2 ^ L (n - 1)
   -- the month cases: 'the twelve starred cases are proved from the definitions together, as one table with one claim'
   pub month : map run_case cases ≡ map expected cases
   -- the whole job: draw, sheet, mix, unmix and show, each on what the one before it wrote

@@ -78,7 +78,7 @@ module _ (net : Net) (far : 1 ≤ net.apart) (bit : ℕ) (two : 2 ≤ net.size) 
 
   values_come : (P : ℕ → Type 0) → ((q : ℕ) → q < m → P (get_or x.values (place_of net q) 0)) → (q : ℕ) → q < m → P
       (get_or y.values (place_of net q) 0)
-  values_come = come x.values y.values T.value_at_lem
+  values_come = come x.values y.values T.value_at
 
   trails_come : (P : ℕ → Type 0) → ((q : ℕ) → q < m → P (get_or x.trails (place_of net q) 0)) → (q : ℕ) → q < m → P
       (get_or y.trails (place_of net q) 0)

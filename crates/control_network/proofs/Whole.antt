@@ -278,8 +278,8 @@ module _ (net : Net) (w : Walk) (vs ts ps bs l : List ℕ) (two : 2 ≤ net.size
             (permutation true) above holding_bottom (omega (arith, few)) tidy_above)
 
         -- each half is sorted: a value is below k
-        value_at_lem : (j : ℕ) (t : Bool) → j < size_of m t → get_or below.values (half t j) 0 ≡ j
-        value_at_lem =
+        value_at : (j : ℕ) (t : Bool) → j < size_of m t → get_or below.values (half t j) 0 ≡ j
+        value_at =
             value_in law N U two S.order S.permutation before S.holding (network (up m)) above sets_top (network (down m)) below
             sets_bottom
 
@@ -291,7 +291,7 @@ module _ (net : Net) (w : Walk) (vs ts ps bs l : List ℕ) (two : 2 ≤ net.size
             let lp : p.0 < up m = law.dec< (up m) q (omega arith) in
             let lies : p.0 < size_of m p.1 = real⁻ wiring law m p lp (rw e h) in
             rw (ap (λ (s : State). s.values) is₃)
-            (subst (λ i. get_or below.values (place_of net i) 0 < 32768) e (rw (value_at_lem p.0 p.1 lies) (omega (arith, few))))
+            (subst (λ i. get_or below.values (place_of net i) 0 < 32768) e (rw (value_at p.0 p.1 lies) (omega (arith, few))))
 
         -- what step 6 asks
         pub asks_six : (2 ≤ m) × Covers net vs₃ × Covers net ts₃ × (z.b + down m ≤ length bs₃) × (entry_words * (z.e + 1) ≤ length l₃)

@@ -38,16 +38,16 @@ setting-length sheet =
     length-take-le w _ (omega (arith, bits_length row, numbers_length sevens sheet (numbers_for w) (fourteens_at sheet)))
 
 -- the bits in numbers are bits, and so is the setting
-are_bits_lem : (vs : List ℕ) → Bits (bits_in vs)
+are_bits : (vs : List ℕ) → Bits (bits_in vs)
 unfolding Bits
-are_bits_lem vs i = elim (dec_lt i (14 * length vs)) [
+are_bits vs i = elim (dec_lt i (14 * length vs)) [
   | yes l ↦ rw (bit_at vs i l) (mod-lt _ (omega arith))
   | no l ↦ rw (get_or-eq_default (bits_in vs) 0 {n = i} (omega (arith, bits_length vs))) (omega arith)
 ]
 
 pub setting_bits : (sheet : List ℕ) → Bits (setting_in sheet)
 unfolding setting_in bits_from
-setting_bits sheet = bits_take (W (places_in sheet)) _ (are_bits_lem (numbers_at sevens (numbers_for (W (places_in sheet))) sheet (fourteens_at sheet)))
+setting_bits sheet = bits_take (W (places_in sheet)) _ (are_bits (numbers_at sevens (numbers_for (W (places_in sheet))) sheet (fourteens_at sheet)))
 
 -- a sheet whose questions all get a yes has at most 1,024 places, and a setting that fits
 pub passed_sized : (sheet : List ℕ) (room : ℕ) → first_no (read_questions sheet room) ≡ all_yes → Sized sheet room

@@ -27,7 +27,7 @@ use Rattle.steps.specs.Fold.{rounds_of, input_steps}
 use Rattle.steps.proofs.Places.{Unlike, size_of, real}
 use Rattle.steps.proofs.Sweeps.{length-each, each_at, each_off, length-act}
 use Rattle.steps_canonical.proofs.Round.{Ready}
-use Rattle.steps_canonical.proofs.Rounds.{Passed, input_of, rounds_keep, input_count, input_bits_lem, input-apart, input-lowest}
+use Rattle.steps_canonical.proofs.Rounds.{Passed, input_of, rounds_keep, input_count, input_are_bits, input-apart, input-lowest}
 use Rattle.steps_canonical.proofs.Turns.{turned_real, turned_off, turned-at}
 use Rattle.steps_canonical.specs.Table.{Holding}
 use Rattle.steps_canonical.proofs.Table.{Off, Framed, framed_same}
@@ -43,7 +43,7 @@ pub record Parted (w : Wiring) (m : ℕ) (o input : List ℕ) : Type 0 where
 two_parted : {w : Wiring} → Lawful w → (o : List ℕ) → IsPermutation 2 o → Parted w 2 o []
 two_parted L o O =
     let S = walk_settles L 2 (omega arith) o O in
-    record { count = refl; bits = S.input_bits_lem; apart = S.apart; lowest = S.lowest_straight }
+    record { count = refl; bits = S.input_are_bits; apart = S.apart; lowest = S.lowest_straight }
 
 module _ {w : Wiring} (L : Lawful w) (N : Subnetwork) (U : Unlike N.size N.place) (two : 2 ≤ N.size) (o : List ℕ)
     (O : IsPermutation N.size o) (x : State) (H : Holding N o x) where
@@ -61,7 +61,7 @@ module _ {w : Wiring} (L : Lawful w) (N : Subnetwork) (U : Unlike N.size N.place
     pub parted : Parted w N.size o (input_of N y.bits)
     pub framed : Framed N N.bit (up N.size - 1) x y
     pub sides : (i : ℕ) (t : Bool) → i < size_of N.size t → i < size_of N.size (half (input_of N y.bits) (i, t))
-    pub value_at_lem : (i : ℕ) (t : Bool) → i < size_of N.size t
+    pub value_at : (i : ℕ) (t : Bool) → i < size_of N.size t
         → get_or y.values (at (i, t)) 0 ≡ get_or x.values (at (feeder (input_of N y.bits) t i)) 0
     pub trail_at : (i : ℕ) (t : Bool) → i < size_of N.size t
         → get_or y.trails (at (i, t)) 0 ≡ get_or x.trails (at (feeder (input_of N y.bits) t i)) 0
@@ -90,7 +90,7 @@ module _ {w : Wiring} (L : Lawful w) (N : Subnetwork) (U : Unlike N.size N.place
         parted = rw (no_input e) (subst (λ n. IsPermutation n o → Parted w n o []) (sym e) (two_parted L o) O);
         framed = framed_same N N.bit (k - 1) x H.unmarked;
         sides = λ i t l. rw (no_input e) l;
-        value_at_lem = λ i t l. rw (no_input e);
+        value_at = λ i t l. rw (no_input e);
         trail_at = λ i t l. rw (no_input e);
       }
 
@@ -148,7 +148,7 @@ module _ {w : Wiring} (L : Lawful w) (N : Subnetwork) (U : Unlike N.size N.place
         parted =
             record {
               count = input_count L N some o O x ready (λ j _. H.unmarked j);
-              bits = input_bits_lem L N some o O x ready (λ j _. H.unmarked j);
+              bits = input_are_bits L N some o O x ready (λ j _. H.unmarked j);
               apart = input-apart L N some o O x ready (λ j _. H.unmarked j) two;
               lowest = input-lowest L N some o O x ready (λ j _. H.unmarked j) two;
             };
@@ -164,7 +164,7 @@ module _ {w : Wiring} (L : Lawful w) (N : Subnetwork) (U : Unlike N.size N.place
               unmarked = clear;
             };
         sides = turned_real L m N.place U after.bits N.bit (k - 1) few after_room;
-        value_at_lem = acted-at after.values x.values P.Values-same H.values_room;
+        value_at = acted-at after.values x.values P.Values-same H.values_room;
         trail_at = acted-at after.trails x.trails P.trails_same H.trails_room;
       }
 
@@ -195,7 +195,7 @@ module _ {w : Wiring} (L : Lawful w) (N : Subnetwork) (U : Unlike N.size N.place
   standing i t l =
       let q : ℕ = w.enc k (feeder input t i) in
       let q< : q < m = real w L m (half input (i, t)) i (T.sides i t l) in
-      ap (w.dec k) (T.value_at_lem i t l ∙ H.order q q< ∙ sym (entry_in m o O q q<))
+      ap (w.dec k) (T.value_at i t l ∙ H.order q q< ∙ sym (entry_in m o O q q<))
 
   values_fit : (i : ℕ) → i < m → N.place i < length y.values
   values_fit i l = rw T.framed.values_length (H.values_room i l)
@@ -206,7 +206,7 @@ module _ {w : Wiring} (L : Lawful w) (N : Subnetwork) (U : Unlike N.size N.place
   pub record Entered (z : State) : Type 0 where
     pub parted : Parted w N.size o (input_of N z.bits)
     pub framed : Framed N N.bit (up N.size - 1) x z
-    pub value_at_lem : (i : ℕ) (t : Bool) → i < size_of N.size t
+    pub value_at : (i : ℕ) (t : Bool) → i < size_of N.size t
         → get_or z.values (at (i, t)) 0 ≡ (held w (up N.size) o (feeder (input_of N z.bits) t i)).0
     pub trail_at : (i : ℕ) (t : Bool) → i < size_of N.size t
         → get_or z.trails (at (i, t)) 0 ≡ gained (feeder (input_of N z.bits) t i)
@@ -227,7 +227,7 @@ module _ {w : Wiring} (L : Lawful w) (N : Subnetwork) (U : Unlike N.size N.place
               bits_off = T.framed.bits_off;
               unmarked = T.framed.unmarked;
             };
-        value_at_lem = λ i t l. each_at N.place _ y.values m U values_fit (w.enc k (i, t)) (real w L m t i l)
+        value_at = λ i t l. each_at N.place _ y.values m U values_fit (w.enc k (i, t)) (real w L m t i l)
             ∙ ap (λ (v : Side). v.0) (standing i t l);
         trail_at = λ i t l. each_at N.place _ y.trails m U trails_fit (w.enc k (i, t)) (real w L m t i l)
             ∙ rw (T.trail_at i t l, standing i t l);

@@ -57,7 +57,7 @@ module _ {w : Wiring} (L : Lawful w) (N : Subnetwork) (U : Unlike N.size N.place
     pub trails_room : (i : ℕ) → i < N.size → N.place i < length x.trails
     pub bits_room : output_bit N + down N.size ≤ length x.bits
     pub unmarked : (i : ℕ) → get_or x.marks i 0 ≡ 0
-    pub value_at_lem : (j : ℕ) (s : Bool) → j < size_of N.size s → get_or x.values (at (j, s)) 0 ≡ j
+    pub value_at : (j : ℕ) (s : Bool) → j < size_of N.size s → get_or x.values (at (j, s)) 0 ≡ j
     pub trail_at : (p : Side) → p.0 < up N.size → w.enc (up N.size) p < N.size
         → get_or x.trails (at ((held w (up N.size) o p).0, half input p)) 0
         ≡ t (w.enc (up N.size) p) * 2 + digit (held w (up N.size) o p).1
@@ -149,7 +149,7 @@ module _ {w : Wiring} (L : Lawful w) (N : Subnetwork) (U : Unlike N.size N.place
       trail_comes = comes x.trails H.trails_room ∙ H.trail_at p l q
 
       value_comes : get_or values' (at v) 0 ≡ v.0
-      value_comes = comes x.values H.values_room ∙ H.value_at_lem v.0 (half input p) half_real
+      value_comes = comes x.values H.values_room ∙ H.value_at v.0 (half input p) half_real
 
       trails_fit : (i : ℕ) → i < m → N.place i < length trails'
       trails_fit i li = omega (arith, length-act at bits' (output_bit N) x.trails h, H.trails_room i li)

@@ -102,7 +102,7 @@ module _ {w : Wiring} (L : Lawful w) (N : Subnetwork) (U : Unlike N.size N.place
         marks_room = omega (arith, F.marks_length, H.marks_room, half_small t);
         bits_room = omega (arith, F.bits_length, H.bits_room, (half_fits t).1);
         unmarked = F.unmarked;
-        order = λ i l. same i l ∙ E.value_at_lem i t l ∙ sym (half_at w k o input t (size_of m t) i l);
+        order = λ i l. same i l ∙ E.value_at i t l ∙ sym (half_at w k o input t (size_of m t) i l);
       }
 
   pub top_holding : Holding (half_of w N false) (order_in false) z
@@ -173,7 +173,7 @@ module _ {w : Wiring} (L : Lawful w) (N : Subnetwork) (U : Unlike N.size N.place
             trails_room = λ i l. rw to-b.trails_length (H.trails_room i l);
             bits_room = omega (arith, to-b.bits_length, H.bits_room, count);
             unmarked = to-b.unmarked;
-            value_at_lem = value_in;
+            value_at = value_in;
             trail_at = trail_in;
           }
 
@@ -272,12 +272,12 @@ module _ {w : Wiring} (L : Lawful w) (N : Subnetwork) (U : Unlike N.size N.place
                       record {
                         input_count = E.parted.count;
                         output_count = output_count;
-                        input_bits_lem = E.parted.bits;
+                        input_are_bits = E.parted.bits;
                         apart = E.parted.apart;
                         lowest_straight = E.parted.lowest;
                         finished = leaves.finishes;
                       };
                   in_top = A.canonical;
-                  in_bottom_lem = B.canonical;
+                  in_bottom = B.canonical;
                 };
           }

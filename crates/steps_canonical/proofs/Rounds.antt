@@ -207,9 +207,9 @@ module _ {w : Wiring} (L : Lawful w) (N : Subnetwork) (some : 0 < N.size) (o : L
     input-at : (i : ℕ) → suc i < k → get_or input i 0 ≡ get_or after.bits (N.bit + i) 0
     input-at i l = part_at N.bit (k - 1) after.bits i (omega arith)
 
-    pub input_bits_lem : Bits input
+    pub input_are_bits : Bits input
     unfolding Digits
-    input_bits_lem =
+    input_are_bits =
         bits_within input
         (λ i l.
         let h : suc i < k = omega (arith, input_count) in
@@ -225,7 +225,7 @@ module _ {w : Wiring} (L : Lawful w) (N : Subnetwork) (some : 0 < N.size) (o : L
             done.last_straight i (omega arith) ∙ sym (bit_at_past input i (omega (arith, input_count)))
 
     pub input-apart : 2 ≤ N.size → Apart w k o input
-    input-apart two = done-apart L N.size two o O (at k) done input input_count input_bits_lem same_bit
+    input-apart two = done-apart L N.size two o O (at k) done input input_count input_are_bits same_bit
 
     pub input-lowest : 2 ≤ N.size → LowestStraight w k o input
-    input-lowest two = done-lowest L N.size two o O (at k) done input input_count input_bits_lem same_bit
+    input-lowest two = done-lowest L N.size two o O (at k) done input input_count input_are_bits same_bit

@@ -23,7 +23,7 @@ pub returns-then-v-lt10 : goal.returns-then-v-lt10
 returns-then-v-lt10 t c = put_digit _ _ _ c.if-v-lt10.true (omega (arith, ap length (decimal-one _ c.if-v-lt10.true), c.requires))
 
 pub put_decimal-end-requires : goal.put_decimal-end-requires
-put_decimal-end-requires t c = (omega (arith, c.if-v-lt10.false, c.requires.0), omega (arith, longer _ c.if-v-lt10.false, c.requires))
+put_decimal-end-requires t c = omega (arith, longer _ c.if-v-lt10.false, c.requires)
 
 pub bounds-out-end : goal.bounds-out-end
 bounds-out-end t c = omega (arith, longer _ c.if-v-lt10.false, c.requires, c.put_decimal-end.ensures.place, c.put_decimal-end.auto.out)

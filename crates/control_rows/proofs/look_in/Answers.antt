@@ -28,7 +28,7 @@ loop-i-preserved c = let l = c.loop-i in
     let a = c.args in
     let x = c.number in (
       (omega arith, omega arith),
-      look_code a.row.now _ l.i l.c l.g x.result c.mask.result l.invariant.0.1 l.invariant.1 x.ensures x.type-inv
+      look_code a.row.now _ l.i l.c l.g x.result c.mask.result l.invariant.0.1 l.invariant.1 x.ensures x.type_inv
           c.mask.ensures,
     )
 

@@ -28,7 +28,7 @@ loop-j-preserved c = let a = c.args in
     let byte = (c.slice_known-1.given (a.a + j)).fits in
     let small : x < 256 = omega (arith, byte, low, c.take32-x.ensures.1 j (omega arith)) in
     let m = masked_byte a.s x y c.wrapping_sub_u8.result c.wrapping_add_u8.result c.wrapping_sub_u8-in-loop-j.result
-    c.requires.0 small c.wrapping_sub_u8.type-inv c.wrapping_sub_u8-in-loop-j.type-inv
+    c.requires.0 small c.wrapping_sub_u8.type_inv c.wrapping_sub_u8-in-loop-j.type_inv
     c.wrapping_sub_u8.ensures c.wrapping_add_u8.ensures c.wrapping_sub_u8-in-loop-j.ensures in
     let p : Picked a.s x y c.wrapping_add_u8.result c.wrapping_sub_u8-in-loop-j.result = record { lower = m.0; upper = m.1 } in (
       omega arith,

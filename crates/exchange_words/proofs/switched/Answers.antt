@@ -10,5 +10,5 @@ returns c = let a = c.args in
     let r = c.wrapping_add_u64 in
     let e = c.wide-mask.ensures.0 in
     masked_word a.s a.x a.y d.result r.result c.wrapping_sub_u64-2.result c.requires (omega arith)
-    d.type-inv c.wrapping_sub_u64-2.type-inv
-    d.ensures (rw e at r.ensures) (rw e at c.wrapping_sub_u64-2.ensures)
+    d.type_inv c.wrapping_sub_u64-2.type_inv
+    d.ensures.value (rw e at r.ensures.value) (rw e at c.wrapping_sub_u64-2.ensures.value)
