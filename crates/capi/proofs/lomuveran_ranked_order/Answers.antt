@@ -6,4 +6,4 @@ use Rattle.capi.proofs.lomuveran_ranked_order.Goals as goal
 
 pub returns : goal.returns
 returns c = let call = c.ranked_order in
-    answer_crosses c.tell.ensures (λ a. ranked a call.new.order call.new.bits call.new.log.0) call.ensures
+    answer_crosses c.tell.ensures (λ a. ranked a call.new.order call.new.bits call.new.log) call.ensures

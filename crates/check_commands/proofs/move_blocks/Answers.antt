@@ -4,4 +4,4 @@ use borrow.Author.Rules.{rules}
 use Rattle.check_commands.proofs.move_blocks.Goals as goal
 
 pub shape_of-scattered : goal.shape_of-scattered
-shape_of-scattered c = c.scatter.auto.out.0
+shape_of-scattered c = c.scatter.auto.out

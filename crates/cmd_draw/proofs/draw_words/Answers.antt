@@ -21,7 +21,7 @@ slice_bounds-put_order-end c =
 pub put_order-requires : goal.put_order-requires
 put_order-requires c = let h = c.if-answer-ne0.false in
     let a = c.args in
-    let short = length-take a.n c.shuffle-drawn.new.out.0 in
+    let short = length-take a.n c.shuffle-drawn.new.out in
     (omega (arith, short, few _ _ c.shuffle-drawn.ensures h), omega arith, entries_few _ _ c.shuffle-drawn.ensures h)
 
 pub returns : goal.returns

@@ -15,15 +15,15 @@ returns-in_default c = let told = c.refused.ensures.0 ∙ c.answer.ensures in
     (form_refused _ _ c.read_order-read.ensures c.in_default.is told)
 
 pub slice_bounds-order-end : goal.slice_bounds-order-end
-slice_bounds-order-end c = omega (arith, places_few_lem _ [] c.read_order-read.ensures c.in-Number.is, c.read_order-read.auto.order.0)
+slice_bounds-order-end c = omega (arith, places_few_lem _ [] c.read_order-read.ensures c.in-Number.is, c.read_order-read.auto.order)
 
 pub slice_bounds-set-end : goal.slice_bounds-set-end
 slice_bounds-set-end c =
-    sym (length-take-le _ c.read_order-read.new.order.0 (omega (arith, places_few_lem _ [] c.read_order-read.ensures c.in-Number.is, c.read_order-read.auto.order.0)))
+    sym (length-take-le _ c.read_order-read.new.order (omega (arith, places_few_lem _ [] c.read_order-read.ensures c.in-Number.is, c.read_order-read.auto.order)))
 
 pub set-requires : goal.set-requires
 set-requires c =
-    (omega (arith, length-take c.in-Number.n c.read_order-read.new.order.0, places_few_lem _ [] c.read_order-read.ensures c.in-Number.is), search rules)
+    (omega (arith, length-take c.in-Number.n c.read_order-read.new.order, places_few_lem _ [] c.read_order-read.ensures c.in-Number.is), search rules)
 
 pub returns : goal.returns
 returns c = then_set _ _ c.read_order-read.ensures c.in-Number.is c.set.ensures

@@ -29,7 +29,7 @@ slice_bounds-bits-end c = let set = report_outcome _ _ c.order_setting-set.ensur
 pub slice_bounds-put_lines-end-2 : goal.slice_bounds-put_lines-end-2
 slice_bounds-put_lines-end-2 c = let made = c.order_setting-set in
     let there = bits_there _ _ (report_outcome _ _ made.ensures) c.if-answer-ne0.false c.switches-w.ensures.0 in
-    sym (length-take-le _ made.new.bits.0 there)
+    sym (length-take-le _ made.new.bits there)
 
 pub put_lines-requires : goal.put_lines-requires
 put_lines-requires c = let made = c.order_setting-set in
@@ -37,8 +37,8 @@ put_lines-requires c = let made = c.order_setting-set in
     let few = places_few_lem _ _ (report_outcome _ _ made.ensures) c.if-answer-ne0.false in
     omega (
       arith,
-      lines_fit made.result.answer.count (take w.result made.new.bits.0) made.result.entries few
-          (omega (arith, length-take w.result made.new.bits.0, w.ensures.1))
+      lines_fit made.result.answer.count (take w.result made.new.bits) made.result.entries few
+          (omega (arith, length-take w.result made.new.bits, w.ensures.1))
           (omega (arith, entries_are _ _ made.ensures c.if-answer-ne0.false, entries_few made.result.answer.count few)),
       c.well_formed,
     )

@@ -20,7 +20,7 @@ slice_bounds-put_order-end c = sym (length-take-le _ _
     (omega (arith, c.requires.0))))
 
 pub put_order-a-requires : goal.put_order-a-requires
-put_order-a-requires c = omega (arith, c.requires, length-take c.args.n c.order_of_setting.new.order.0)
+put_order-a-requires c = omega (arith, c.requires, length-take c.args.n c.order_of_setting.new.order)
 
 pub put_pictured-requires : goal.put_pictured-requires
 put_pictured-requires c = (
@@ -32,12 +32,12 @@ put_pictured-requires c = (
     c.requires.4,
     c.put_order-a.ensures.1,
     c.put_order-a.auto,
-    length-take c.args.n c.order_of_setting.new.order.0,
+    length-take c.args.n c.order_of_setting.new.order,
   ),
 )
 
 pub returns : goal.returns
 returns c = rest_put c.args.n c.args.bits.now _
     (order-front paper_lawful c.args.n c.args.bits.now (replicate 1024 0) c.order_of_setting.ensures)
-    (omega (arith, c.requires.0, c.requires.4, length-take c.args.n c.order_of_setting.new.order.0)) c.put_order-a.ensures
+    (omega (arith, c.requires.0, c.requires.4, length-take c.args.n c.order_of_setting.new.order)) c.put_order-a.ensures
     c.put_pictured.ensures

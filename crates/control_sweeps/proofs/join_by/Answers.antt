@@ -64,7 +64,7 @@ loop-i-preserved c = let l = c.loop-i in
     c.requires.1.inside.apart l.invariant.1.1 in (
       (omega arith, (simp length-set l.invariant.0.1.0, simp length-set l.invariant.0.1.1)),
       (
-        rw (c.value_of_lem.ensures, same)
+        rw (c.value_of.ensures, same)
             (each_step (place_of (net_of a.t a.o a.m a.apart))
             (λ j v. (wiring_of a.t).enc a.k (v, eqb (get_or a.trails.now (a.o + j * a.apart) 0 % 2) 1)) l.vals a.vals.now
             l.i l.invariant.1.0),

@@ -77,6 +77,6 @@ returns c = let a = c.args in
     (yes_all a.n a.given.now a.out.now c.if-n-gt-MOST_PLACES.false (c.if-given-due.false ∙ c.switches-due.ensures.0)
     (c.if-out-due.false ∙ c.switches-due.ensures.0)
     (sym c.first_bad_bit-bad.ensures ∙ c.if-bad-due.false ∙ sym c.if-given-due.false))
-    c.accept.ensures c.setting_of_order_in.auto.bits.0
+    c.accept.ensures c.setting_of_order_in.auto.bits
     (set-across a.from a.n a.given.now (replicate {A = ℕ} 1024 0) c.order_of_setting_in.ensures
     c.other_wiring.ensures c.setting_of_order_in.ensures.1)

@@ -12,8 +12,8 @@ use Rattle.listed_order.proofs.set_ranked.Goals as goal
 pub set_order-requires : goal.set_order-requires
 set_order-requires c = let w = c.write_order in
     let n = length c.args.order.now in
-    let e : w.new.order.0 ≡ order_at n c.args.r = w.ensures in
-    let l : length w.new.order.0 ≡ n = ap length e ∙ length_order_at n c.args.r in (
+    let e : w.new.order ≡ order_at n c.args.r = w.ensures in
+    let l : length w.new.order ≡ n = ap length e ∙ length_order_at n c.args.r in (
       omega (arith, l, c.requires.0),
       rw (l, e) (order_permutation n c.args.r c.requires.1),
       c.requires.2 ∙ ap W (sym l),

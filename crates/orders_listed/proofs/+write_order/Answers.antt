@@ -69,7 +69,7 @@ pub make_way-requires : goal.make_way-requires
 make_way-requires t c = let B = begun t d in
     let ys = c.write_order in (
       omega (arith, first_small B, c.requires.0),
-      rw (continued B ys.ensures, lent c.first_digit-d.result ys.new.order.0) (below B ys.ensures c.requires.0),
+      rw (continued B ys.ensures, lent c.first_digit-d.result ys.new.order) (below B ys.ensures c.requires.0),
     )
 
 pub returns : goal.returns

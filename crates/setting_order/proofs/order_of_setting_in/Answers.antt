@@ -18,7 +18,7 @@ pub slice_bounds-apply_inverse_in-end : goal.slice_bounds-apply_inverse_in-end
 slice_bounds-apply_inverse_in-end c = sym (length-take-le _ _ (omega (arith, c.number.auto, c.requires.0)))
 
 pub slice_bounds-gather-end : goal.slice_bounds-gather-end
-slice_bounds-gather-end c = sym (array_kept c.args.n c.number.new.blocks.0 c.requires.0 c.number.auto.blocks.0
+slice_bounds-gather-end c = sym (array_kept c.args.n c.number.new.blocks c.requires.0 c.number.auto.blocks
     c.apply_inverse_in.new.blocks c.apply_inverse_in.auto.blocks)
 
 pub gather-requires : goal.gather-requires
@@ -26,7 +26,7 @@ gather-requires c = (
   omega (
     arith,
     c.requires.0,
-    array_kept c.args.n c.number.new.blocks.0 c.requires.0 c.number.auto.blocks.0
+    array_kept c.args.n c.number.new.blocks c.requires.0 c.number.auto.blocks
         c.apply_inverse_in.new.blocks c.apply_inverse_in.auto.blocks,
   ),
   omega (arith, c.requires.0),
@@ -35,6 +35,6 @@ gather-requires c = (
 pub returns : goal.returns
 returns c = c.gather.ensures
     ∙ ap (overlay c.args.order.now 0)
-    (carried_in c.args.n c.number.new.blocks.0 c.requires.0 c.number.auto.blocks.0 c.args.t c.args.bits.now
+    (carried_in c.args.n c.number.new.blocks c.requires.0 c.number.auto.blocks c.args.t c.args.bits.now
     (replicate (entry_words * 9217) 0) c.requires.1 c.requires.2 c.requires.3
     c.number.ensures (search rules) c.apply_inverse_in.ensures)

@@ -17,11 +17,11 @@ returns-in_default c = body_stops _ _ _ c.in_default.is c.read_row-row.ensures
 
 pub slice_bounds-filled-end-2 : goal.slice_bounds-filled-end-2
 slice_bounds-filled-end-2 c =
-    sym (length-take-le (numbers_for c.args.w) c.read_row-row.new.values.0 (omega (arith, c.read_row-row.auto.values.0, c.requires)))
+    sym (length-take-le (numbers_for c.args.w) c.read_row-row.new.values (omega (arith, c.read_row-row.auto.values, c.requires)))
 
 pub filled-requires : goal.filled-requires
 filled-requires c =
-    (length-take-le (numbers_for c.args.w) c.read_row-row.new.values.0 (omega (arith, c.read_row-row.auto.values.0, c.requires)), c.requires.0, λ i. rw (row_there _ _ _ c.in-Number.is c.read_row-row.ensures) (numbers_fit sevens _ (value_small _) _ _ i))
+    (length-take-le (numbers_for c.args.w) c.read_row-row.new.values (omega (arith, c.read_row-row.auto.values, c.requires)), c.requires.0, λ i. rw (row_there _ _ _ c.in-Number.is c.read_row-row.ensures) (numbers_fit sevens _ (value_small _) _ _ i))
 
 pub returns-then-not-filled : goal.returns-then-not-filled
 returns-then-not-filled c =

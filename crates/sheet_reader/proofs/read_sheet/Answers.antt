@@ -23,15 +23,15 @@ returns-in_default-body c =
 
 pub slice_bounds-values-end : goal.slice_bounds-values-end
 slice_bounds-values-end c =
-    omega (arith, row_count c.read_body-body.ensures c.in-Number-body.is, c.switches-w.ensures.1, c.read_body-body.auto.values.0)
+    omega (arith, row_count c.read_body-body.ensures c.in-Number-body.is, c.switches-w.ensures.1, c.read_body-body.auto.values)
 
 pub slice_bounds-write_bits-end : goal.slice_bounds-write_bits-end
 slice_bounds-write_bits-end c =
-    sym (length-take-le c.in-Number-body.k c.read_body-body.new.values.0 (omega (arith, row_count c.read_body-body.ensures c.in-Number-body.is, c.switches-w.ensures.1, c.read_body-body.auto.values.0)))
+    sym (length-take-le c.in-Number-body.k c.read_body-body.new.values (omega (arith, row_count c.read_body-body.ensures c.in-Number-body.is, c.switches-w.ensures.1, c.read_body-body.auto.values)))
 
 pub write_bits-requires : goal.write_bits-requires
 write_bits-requires c =
-    (omega (arith, c.switches-w.ensures.0, head_fits _ _ c.read_head-head.ensures c.in-Number.is), omega (arith, length-take-le c.in-Number-body.k c.read_body-body.new.values.0 (omega (arith, row_count c.read_body-body.ensures c.in-Number-body.is, c.switches-w.ensures.1, c.read_body-body.auto.values.0)), row_count c.read_body-body.ensures c.in-Number-body.is), c.switches-w.ensures.1)
+    (omega (arith, c.switches-w.ensures.0, head_fits _ _ c.read_head-head.ensures c.in-Number.is), omega (arith, length-take-le c.in-Number-body.k c.read_body-body.new.values (omega (arith, row_count c.read_body-body.ensures c.in-Number-body.is, c.switches-w.ensures.1, c.read_body-body.auto.values)), row_count c.read_body-body.ensures c.in-Number-body.is), c.switches-w.ensures.1)
 
 pub returns : goal.returns
 returns c =

@@ -32,7 +32,7 @@ put_row-requires c = let bits = c.args.bits.now in
         one_byte_lem,
         bytes_few c.args.n,
         c.requires,
-        length-take k c.gather.new.row.0,
+        length-take k c.gather.new.row,
       ),
       λ i. rw made (fourteens-fit k bits c.requires.2 i),
     )

@@ -25,7 +25,7 @@ pub slice_bounds-exchange-end : goal.slice_bounds-exchange-end
 slice_bounds-exchange-end c = sym (length-take-le _ _ (omega (arith, c.if-n-gt-MOST_PLACES.false, c.choose-choice.auto)))
 
 pub exchange-requires : goal.exchange-requires
-exchange-requires c = let short = length-take c.args.n c.choose-choice.new.kept.0 in
+exchange-requires c = let short = length-take c.args.n c.choose-choice.new.kept in
     (omega (arith, short, c.if-out-n.false), omega (arith, short, c.if-n-gt-MOST_PLACES.false))
 
 pub returns : goal.returns
