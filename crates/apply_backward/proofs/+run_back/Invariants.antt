@@ -19,10 +19,6 @@ use Rattle.apply_layers.proofs.Network.{Same, W_two, nothing-back, pair_back, re
 use Rattle.apply_layers.proofs.Parts.{Room, room_after, fits, front_long, behind_long, front_kept, behind_kept}
 use Rattle.apply_layers.proofs.Lending.{same, same_then, span, Sizes, sizes, inside_all, to_pair, to-layer, to_top, to_bottom}
 use Rattle.apply_layers.proofs.Lending.{below_all, top_inside, top_ran, bottom_ran}
-use borrow.Fn.Kinds.{In}
-use borrow.Fn.PlainCycle.{Measures, is, falls, and}
-use Rattle.apply_backward.proofs.run_back.Kinds as run-back-kinds
-use Rattle.apply_backward.proofs.+run_back.{statement}
 use Rattle.apply_backward.proofs.+run_back.Given as goal
 
 abbrev pub decreases-run_back : goal.decreases-run_back

@@ -18,10 +18,6 @@ use Rattle.apply_layers.proofs.Network.{Same, W_two, nothing, pair, applied}
 use Rattle.apply_layers.proofs.Parts.{Room, room_after, fits, front_long, behind_long, front_kept, behind_kept}
 use Rattle.apply_layers.proofs.Lending.{same, same_then, span, Sizes, sizes, inside_all, to_pair, to-layer, to_top, to_bottom}
 use Rattle.apply_layers.proofs.Lending.{below_all, top_inside, top_ran, bottom_ran}
-use borrow.Fn.Kinds.{In}
-use borrow.Fn.PlainCycle.{Measures, is, falls, and}
-use Rattle.apply_forward.proofs.run.Kinds as run-kinds
-use Rattle.apply_forward.proofs.+run.{statement}
 use Rattle.apply_forward.proofs.+run.Goals as goal
 
 abbrev run_at : ℕ → In 3 run-kinds.ps

@@ -12,18 +12,6 @@ use Rattle.apply_layers.proofs.Packing.{at_switch, switch-first, switch_next, sw
 use Rattle.apply_layers.proofs.Runs.{First, first_none, first_more}
 use Rattle.apply_layers.proofs.in_parts.Goals as goal
 
--- where the next switch acts
-abbrev Next : Type 0
-Next =
-    goal.After-shared_slice_known-in-loop-i-1
-
-lies : (e : Next) → (let a = e.before.before.before.before.before.before.before.before.args in let l = e.before.before.loop in
-    Within a.width a.o (l.i * a.step) (l.i * (a.step * a.width)) a.gap (length a.blocks.now))
-lies e =
-    let p = e.before.before.before.before.before.before.before.before.pre in
-    let l = e.before.before.loop in
-    within p.0 p.1 l.i (omega arith)
-
 pub overflow_mul-stride : goal.overflow_mul-stride
 overflow_mul-stride c = omega (arith, few_fit c.requires.0 c.requires.1 c.args.step c.requires.1.pace)
 
@@ -50,34 +38,34 @@ loop-i-init c = let a = c.args in (
 )
 
 pub overflow_mul-a : goal.overflow_mul-a
-overflow_mul-a c = omega (arith, (lies c).ends)
+overflow_mul-a c = omega (arith, (within c.requires.0 c.requires.1 c.loop-i.i (omega arith)).ends)
 
 pub exchange_whole-requires : goal.exchange_whole-requires
 unfolding Bits
 exchange_whole-requires c = let p = c.requires in
-    let x = lies c.before in
+    let x = within c.requires.0 c.requires.1 c.loop-i.i (omega arith) in
     (p.0.settings _, p.3, omega (arith, x.apart, p.2), omega (arith, x.ends, p.2))
 
 pub overflow_add-a : goal.overflow_add-a
-overflow_add-a c = omega (arith, (lies e).ends, c.requires.2)
+overflow_add-a c = omega (arith, (within c.requires.0 c.requires.1 c.loop-i.i (omega arith)).ends, c.requires.2)
 
 pub exchange_rest-requires : goal.exchange_rest-requires
 unfolding Bits
 exchange_rest-requires c = let p = c.requires in
-    let x = lies e in
+    let x = within c.requires.0 c.requires.1 c.loop-i.i (omega arith) in
     (p.0.settings _, omega (arith, x.apart, p.2), omega (arith, x.ends, p.2, c.exchange_whole.auto.blocks))
 
 pub overflow_add-x : goal.overflow_add-x
 overflow_add-x c = let a = c.args in
     let small = switch_small a.step a.gap a.o a.e c.loop-i.i _ _ c.packed-next.ensures c.loop-i.invariant.1
-    (omega (arith, (lies n).place)) (omega (arith, c.requires.1.pace, c.requires.0.places))
+    (omega (arith, (within c.requires.0 c.requires.1 c.loop-i.i (omega arith)).place)) (omega (arith, c.requires.1.pace, c.requires.0.places))
     (omega (arith, c.requires.0.enough, c.requires.0.short)) in
     omega (arith, small)
 
 pub loop-i-preserved : goal.loop-i-preserved
 loop-i-preserved c = let a = c.args in
     let i = c.loop-i.i in
-    let place = (lies n).place in
+    let place = (within c.requires.0 c.requires.1 c.loop-i.i (omega arith)).place in
     let k = c.exchange_rest.auto.blocks ∙ c.exchange_whole.auto.blocks in (
       (omega arith, (k ∙ c.loop-i.invariant.0.1.0, c.write_packed.auto.log ∙ c.loop-i.invariant.0.1.1)),
       switch_next a.step a.gap a.o a.e i _ _ c.packed-next.ensures c.loop-i.invariant.1,

@@ -7,10 +7,6 @@ use Rattle.cmd_text.proofs.Decimal.{decimal-one, longer}
 use mathlib.Core.Path.{ap}
 use lib.ListN.{length}
 use Prim.Native.Nat.{ℕ, ◌<◌}
-use borrow.Fn.Kinds.{In}
-use borrow.Fn.PlainCycle.{Measures, is, falls, and}
-use Rattle.cmd_text.proofs.put_decimal.Kinds as put-decimal-kinds
-use Rattle.cmd_text.proofs.+put_decimal.{statement}
 use Rattle.cmd_text.proofs.+put_decimal.Goals as goal
 
 pub bounds-out-at : goal.bounds-out-at

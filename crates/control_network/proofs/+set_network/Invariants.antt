@@ -13,10 +13,6 @@ use Rattle.control_network.specs.Inner.{unmarked}
 use Rattle.control_network.proofs.Entries.{went_none, went_as, net_none, entries_none}
 use Rattle.control_network.proofs.Whole.{Entered, Set, Halved, room_top, tidy_top, ordered_top, lengthens_top, asks_six}
 use Rattle.control_network.proofs.Whole.{room_bottom, tidy_bottom, ordered_bottom, lengthens_bottom, whole_log, whole_state}
-use borrow.Fn.Kinds.{In}
-use borrow.Fn.PlainCycle.{Measures, is, falls, and}
-use Rattle.control_network.proofs.set_network.Kinds as set-network-kinds
-use Rattle.control_network.proofs.+set_network.{statement}
 use Rattle.control_network.proofs.+set_network.Given as goal
 
 abbrev pub decreases-set_network : goal.decreases-set_network

@@ -6,10 +6,6 @@ use Rattle.counts.specs.Counts.{E}
 use Rattle.counts.proofs.Rule.{up_parts, E_none, E_two, E_more}
 use Rattle.counts.proofs.Bounds.{E_small}
 use Prim.Native.Nat.{ℕ, ◌+◌, ◌-◌, ◌*◌, ◌/◌, ◌%◌, ◌≤◌, ◌<◌}
-use borrow.Fn.Kinds.{In}
-use borrow.Fn.PlainCycle.{Measures, is, falls, and}
-use Rattle.counts.proofs.entries_by_halves.Kinds as entries-by-halves-kinds
-use Rattle.counts.proofs.+entries_by_halves.{statement}
 use Rattle.counts.proofs.+entries_by_halves.Given as goal
 
 abbrev pub decreases-entries_by_halves : goal.decreases-entries_by_halves

@@ -6,10 +6,6 @@ use Rattle.counts.specs.Counts.{W}
 use Rattle.counts.proofs.Rule.{up_parts, W_none, W_more}
 use Rattle.counts.proofs.Bounds.{W_small}
 use Prim.Native.Nat.{ℕ, ◌+◌, ◌-◌, ◌/◌, ◌%◌, ◌≤◌, ◌<◌}
-use borrow.Fn.Kinds.{In}
-use borrow.Fn.PlainCycle.{Measures, is, falls, and}
-use Rattle.counts.proofs.switches_by_halves.Kinds as switches-by-halves-kinds
-use Rattle.counts.proofs.+switches_by_halves.{statement}
 use Rattle.counts.proofs.+switches_by_halves.Given as goal
 
 abbrev pub decreases-switches_by_halves : goal.decreases-switches_by_halves

@@ -8,10 +8,6 @@ use borrow.Author.Rules.{rules}
 use Rattle.orders_listed.specs.Ranks.{factorial}
 use Rattle.orders_listed.proofs.OrderAt.{length_order_at}
 use Rattle.orders_listed.proofs.Writing.{Begun, more, starts, used, left_below, first_small, length-others, continued, below, finished, order_none, lent}
-use borrow.Fn.Kinds.{In}
-use borrow.Fn.PlainCycle.{Measures, is, falls, and}
-use Rattle.orders_listed.proofs.write_order.Kinds as write-order-kinds
-use Rattle.orders_listed.proofs.+write_order.{statement}
 use Rattle.orders_listed.proofs.+write_order.Given as goal
 
 abbrev pub decreases-write_order : goal.decreases-write_order
