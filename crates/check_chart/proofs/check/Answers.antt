@@ -13,4 +13,6 @@ slice_bounds-blocks-end-2 c = let d = c.draw-n in
     omega (arith, d.ensures, d.auto.blocks, length_front d.new.blocks m.new.blocks (d.result * 6) m.auto.blocks)
 
 pub slice_bounds-compare-end : goal.slice_bounds-compare-end
-slice_bounds-compare-end c = sym (length-take-le _ _ (array-share-prefix-blocks c.before))
+slice_bounds-compare-end c = let d = c.draw-n in
+    let m = c.moved-t1 in
+    sym (length-take-le _ _ (omega (arith, d.ensures, d.auto.blocks, length_front d.new.blocks m.new.blocks (d.result * 6) m.auto.blocks)))

@@ -14,19 +14,6 @@ use Rattle.listed_order.specs.Calls.{ranked_questions}
 use Rattle.listed_order.proofs.Asked.{refused, RankAsked, taken}
 use Rattle.listed_order.proofs.ranked_order.Goals as goal
 
--- what is known when every question has got a yes
-asked : (c : goal.Else-log-entries)
-    → let a = c.args in
-    RankAsked a.n a.r a.order.now a.bits.now a.log.now
-asked c =
-    record {
-      small = omega (arith, c.if-n-gt6.false);
-      rank_below = omega (arith, c.if-orders-r.false, c.count_orders-orders.ensures.0);
-      room = c.if-order-n.false;
-      bit_count = c.if-bits-switches.false ∙ c.switches.ensures.0;
-      log_room = omega (arith, c.if-log-entries.false, c.entries.ensures.0);
-    }
-
 pub returns-then-n-gt6 : goal.returns-then-n-gt6
 returns-then-n-gt6 c = let a = c.args in
     let no = listable_no a.n (omega (arith, c.if-n-gt6.true)) in
@@ -67,14 +54,28 @@ slice_bounds-set_ranked-end-2 c = sym (length-take-le _ _ c.if-order-n.false)
 
 pub set_ranked-requires : goal.set_ranked-requires
 set_ranked-requires c = let a = c.args in
-    let Y = asked b0 in
+    let Y : RankAsked a.n a.r a.order.now a.bits.now a.log.now =
+    record {
+      small = omega (arith, c.if-n-gt6.false);
+      rank_below = omega (arith, c.if-orders-r.false, c.count_orders-orders.ensures.0);
+      room = c.if-order-n.false;
+      bit_count = c.if-bits-switches.false ∙ c.switches.ensures.0;
+      log_room = omega (arith, c.if-log-entries.false, c.entries.ensures.0);
+    } in
     let l = length-take-le a.n a.order.now Y.room in
     let few = c.switches.ensures in
     (omega (arith, l, Y.small), rw l Y.rank_below, Y.bit_count ∙ ap W (sym l), omega (arith, Y.bit_count, few), rw l Y.log_room)
 
 pub returns : goal.returns
 returns c = let a = c.args in
-    let Y = asked b0 in
+    let Y : RankAsked a.n a.r a.order.now a.bits.now a.log.now =
+    record {
+      small = omega (arith, c.if-n-gt6.false);
+      rank_below = omega (arith, c.if-orders-r.false, c.count_orders-orders.ensures.0);
+      room = c.if-order-n.false;
+      bit_count = c.if-bits-switches.false ∙ c.switches.ensures.0;
+      log_room = omega (arith, c.if-log-entries.false, c.entries.ensures.0);
+    } in
     let l = length-take-le a.n a.order.now Y.room in
     let s = c.set_ranked in
     taken _ _ _ _ _ Y (s.ensures.0 ∙ ap (λ m. order_at m a.r) l) s.ensures.1 s.auto.bits c.accept.ensures
