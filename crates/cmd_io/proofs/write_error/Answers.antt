@@ -1,9 +1,7 @@
--- `cmd_io::write_error` meets its contract.
+-- `cmd_io::write_error` meets its contract: the line of a refusal lies in its room.
 -- Assumes nothing.
-use mathlib.Core.Path.{sym}
-use lib.Seq.{length-take-le}
+use Rattle.std.proofs.Common.{sym, length-take-le}
 use Rattle.answers.proofs.Putting.{put_within}
-use borrow.Author.Rules.{rules}
 use Rattle.cmd_io.proofs.write_error.Goals as goal
 
 pub slice_bounds-line-end : goal.slice_bounds-line-end
