@@ -11,12 +11,12 @@ use Rattle.record_entries.proofs.Fillings.{Filling, filling_starts, filling_more
 use Rattle.record_entries.proofs.invert.Goals as goal
 
 -- the entry that was read is a place
-entry-below : (c : goal.After-wide-k invariant-loop decreases-loop) → c.wide-k.result < c.args.n
+entry-below : (c : goal.After-wide-k) → c.wide-k.result < c.args.n
 entry-below c =
     let a = c.args in
-    let P : IsPermutation a.n (take a.n a.t2) = c.requires.1 in
+    let P : IsPermutation a.n (take a.n a.f) = c.requires.1 in
     let i = c.loop-i.i in
-    omega (arith, c.wide-k.ensures, P.below i (omega arith), get_or-take a.n a.t2 i 0 (omega arith))
+    omega (arith, c.wide-k.ensures, P.below i (omega arith), get_or-take a.n a.f i 0 (omega arith))
 
 pub loop-i-init : goal.loop-i-init
 loop-i-init c = filling_starts _ _ _
@@ -29,9 +29,9 @@ bounds-back-k c = omega (arith, entry-below c)
 
 pub loop-i-preserved : goal.loop-i-preserved
 loop-i-preserved c = let a = c.args in
-    let P : IsPermutation a.n (take a.n a.t2) = c.requires.1 in
+    let P : IsPermutation a.n (take a.n a.f) = c.requires.1 in
     let i = c.loop-i.i in
-    filling_more _ _ _ (omega arith) (omega arith) (c.wide-k.ensures ∙ sym (get_or-take a.n a.t2 i 0 (omega arith))) (entry-below c)
+    filling_more _ _ _ (omega arith) (omega arith) (c.wide-k.ensures ∙ sym (get_or-take a.n a.f i 0 (omega arith))) (entry-below c)
     (λ j l q. omega (arith, P.unlike j i (omega arith) (omega arith) q)) refl c.loop-i.invariant
 
 pub returns : goal.returns

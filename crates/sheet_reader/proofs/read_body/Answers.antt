@@ -25,12 +25,12 @@ filled-requires c =
 
 pub returns-then-not-filled : goal.returns-then-not-filled
 returns-then-not-filled c =
-    body_fill _ _ _ c.in-Number.is c.read_row-row.ensures (sym (not-true _ c.if-not-filled.true) ∙ c.filled.ensures)
+    body_fill _ _ _ c.in-Number.is c.read_row-row.ensures (sym c.if-not-filled.true ∙ c.filled.ensures)
 
 pub returns-then-end-input : goal.returns-then-end-input
 returns-then-end-input c =
-    body_surplus _ _ _ c.in-Number.is c.read_row-row.ensures (sym (not-false _ c.if-not-filled.false) ∙ c.filled.ensures) c.if-end-input.true
+    body_surplus _ _ _ c.in-Number.is c.read_row-row.ensures (sym c.if-not-filled.false ∙ c.filled.ensures) c.if-end-input.true
 
 pub returns : goal.returns
 returns c =
-    body_done _ _ _ c.in-Number.is c.read_row-row.ensures (sym (not-false _ c.if-not-filled.false) ∙ c.filled.ensures) c.if-end-input.false
+    body_done _ _ _ c.in-Number.is c.read_row-row.ensures (sym c.if-not-filled.false ∙ c.filled.ensures) c.if-end-input.false
