@@ -1,6 +1,6 @@
 -- The orders stand in dictionary order, and so no two of them are alike.
 -- Assumes nothing.
-use mathlib.Core.Path.{◌≡◌, sym, ap}
+use mathlib.Core.Path.{◌≡◌, sym, ap, subst}
 use mathlib.Core.Logic.{inl, inr}
 use mathlib.Core.List.{List, [], ◌∷◌, map}
 use Prim.Native.Nat.{ℕ, zero, suc, ◌*◌, ◌/◌, ◌%◌, ◌<◌}
@@ -55,7 +55,11 @@ rising (suc n) r s l h = on (dec_lt (r / f) (s / f)) (dec_lt (s / f) (r / f)) (r
         let e : r / f ≡ s / f = omega arith in
         let b : Before (order_at n (r % f)) (order_at n (s % f)) =
         rest (omega (arith, ap (λ q. q * f) e, div-add-mod' r f, div-add-mod' s f)) (rest_below n s) in
-        inr (e, rw e (before-map (past (s / f)) (past_rises (s / f)) (order_at n (r % f)) (order_at n (s % f)) b))
+        inr (
+          e,
+          subst (λ q. Before (map (past q) (order_at n (r % f))) (map (past (s / f)) (order_at n (s % f)))) (sym e)
+          (before-map (past (s / f)) (past_rises (s / f)) (order_at n (r % f)) (order_at n (s % f)) b),
+        )
 
 -- two ranks of one order are the same
 pub same_rank : (n r s : ℕ) → r < factorial n → s < factorial n → order_at n r ≡ order_at n s → r ≡ s
