@@ -154,17 +154,17 @@ module _ {w : Wiring} (L : Lawful w) (N : Subnetwork) (U : Unlike N.size N.place
             };
         framed =
             record {
-              values_length = acted-length after.values x.values P.Values-same;
+              values_length = acted-length after.values x.values P.values_same;
               trails_length = acted-length after.trails x.trails P.trails_same;
               marks_length = length-each (λ i. i) (λ i mark. 0) after.marks k ∙ P.marks_length;
               bits_length = P.bits_length;
-              values_off = acted_off after.values x.values P.Values-same;
+              values_off = acted_off after.values x.values P.values_same;
               trails_off = acted_off after.trails x.trails P.trails_same;
               bits_off = P.bits_off;
               unmarked = clear;
             };
         sides = turned_real L m N.place U after.bits N.bit (k - 1) few after_room;
-        value_at = acted-at after.values x.values P.Values-same H.values_room;
+        value_at = acted-at after.values x.values P.values_same H.values_room;
         trail_at = acted-at after.trails x.trails P.trails_same H.trails_room;
       }
 
