@@ -2,3 +2,4 @@ pub mod Bounds
 pub mod Trails
 pub mod Entries
 pub mod Whole
+pub mod Parts

@@ -1,7 +1,6 @@
 -- The input steps, and step 5.
 -- Assumes nothing.
 use native.Mathlib.Omega.{arith}
-use borrow.Author.Rules.{rules}
 use mathlib.Core.Path.{refl, ap, ◌∙◌}
 use lib.ListN.{replicate}
 use Rattle.steps.specs.Steps.{step5}

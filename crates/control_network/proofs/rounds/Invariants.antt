@@ -1,21 +1,17 @@
 -- The first i rounds are done.
 -- Assumes nothing.
-use native.Mathlib.Omega.{arith}
-use mathlib.Core.Path.{◌≡◌, refl, ap, ◌∙◌}
-use Prim.Native.Nat.{ℕ, ◌-◌, ◌≤◌, ◌<◌}
+use mathlib.Core.Path.{◌≡◌}
+use Prim.Native.Nat.{ℕ, ◌-◌, ◌≤◌}
 use lib.ListN.{length}
-use mathlib.Core.List.{List, [], ◌∷◌}
+use mathlib.Core.List.{List}
 use Rattle.counts.specs.Counts.{up}
-use Rattle.network.specs.Log.{entry}
 use Rattle.steps.specs.Sequence.{rounds}
 use Rattle.steps.specs.Fold.{rounds_of}
-use Rattle.steps.proofs.Lengths.{length-rounds}
 use Rattle.wirings.specs.Nets.{wiring_of}
 use Rattle.control_rows.specs.Rows.{Gathered}
 use Rattle.control_pairs.specs.Pairs.{marks_in, bits_in}
 use Rattle.control_walk.specs.Walks.{state, lying, Went}
 use Rattle.control_rings.specs.Turns.{Held}
-use Rattle.control_network.proofs.Entries.{went_none, went_then, went_as, rounds_more, round_more}
 use Rattle.control_network.proofs.rounds.Given as goal
 
 abbrev pub invariant-loop-i : goal.invariant-loop-i
