@@ -29,7 +29,7 @@ loop-j-preserved c = let a = c.args in
     let small : x < 256 = omega (arith, byte, low, c.take32-x.ensures.1 j (omega arith)) in
     let m = masked_byte a.s x y c.wrapping_sub_u8.result c.wrapping_add_u8.result c.wrapping_sub_u8-in-loop-j.result
     c.requires.0 small c.wrapping_sub_u8.type_inv c.wrapping_sub_u8-in-loop-j.type_inv
-    c.wrapping_sub_u8.ensures c.wrapping_add_u8.ensures c.wrapping_sub_u8-in-loop-j.ensures in
+    c.wrapping_sub_u8.ensures.value c.wrapping_add_u8.ensures.value c.wrapping_sub_u8-in-loop-j.ensures.value in
     let p : Picked a.s x y c.wrapping_add_u8.result c.wrapping_sub_u8-in-loop-j.result = record { lower = m.0; upper = m.1 } in (
       omega arith,
       half_more a.s j c.take32-x.result c.take32-y.result c.loop-j.x c.loop-j.y

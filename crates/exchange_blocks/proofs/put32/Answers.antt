@@ -14,8 +14,8 @@ loop-j-preserved c = let a = c.args in
     let j = c.loop-j.j in (
       omega arith,
       (
-        length-set c.loop-j.bytes (a.at + j) (get_or a.t3 j 0) ∙ c.loop-j.invariant.1.0,
-        ap (λ u. set u (a.at + j) (get_or a.t3 j 0)) c.loop-j.invariant.1.1 ∙ one_more j a.at (λ i. get_or a.t3 i 0) a.bytes.now,
+        length-set c.loop-j.bytes (a.at + j) (get_or a.part j 0) ∙ c.loop-j.invariant.1.0,
+        ap (λ u. set u (a.at + j) (get_or a.part j 0)) c.loop-j.invariant.1.1 ∙ one_more j a.at (λ i. get_or a.part i 0) a.bytes.now,
       ),
     )
 
@@ -25,4 +25,4 @@ shape_of-bytes c = c.loop-j.invariant.1.0
 pub returns : goal.returns
 returns c = let a = c.args in
     let e : c.loop-j.j ≡ 32 = omega arith in
-    c.loop-j.invariant.1.1 ∙ ap (λ j. written j a.at (λ i. get_or a.t3 i 0) a.bytes.now) e
+    c.loop-j.invariant.1.1 ∙ ap (λ j. written j a.at (λ i. get_or a.part i 0) a.bytes.now) e
