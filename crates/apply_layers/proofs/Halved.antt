@@ -96,7 +96,7 @@ module _ {w o m apart step gap e : ℕ} {t : Topology} {b bits l : List ℕ} (H 
 
     pub for_bottom : {e' : ℕ} → e' + W (down m) ≤ e + W m
         → (let part = take (length b' - gap * w) (drop (gap * w) b') in
-          Lent w (o + gap) (W (down m)) e' part bits l' × Inside (o + gap + blocks_in w part) bottom)
+        Lent w (o + gap) (W (down m)) e' part bits l' × Inside (o + gap + blocks_in w part) bottom)
     for_bottom {e' = e'} h = to_bottom H.lent H.inside H.spaced H.sizes.two e' k halved_bottom _ (behind_long behind) h
 
     -- a half kept its part's length, and so the whole's

@@ -1,15 +1,11 @@
 -- The proof of the cycle of calls {run_back}.
 -- Assumes nothing.
 use native.Mathlib.Omega.{arith}
-use mathlib.Core.Path.{◌≡◌, refl, sym, ◌∙◌}
-use Prim.Native.Nat.{ℕ, ◌+◌, ◌-◌, ◌*◌, ◌≤◌, ◌<◌}
-use lib.ListN.{length}
-use Rattle.counts.specs.Counts.{W, up}
-use Rattle.network.specs.Network.{down}
+use mathlib.Core.Path.{refl, sym}
 use Rattle.network.proofs.RunBack.{below-reverse}
 use Rattle.wirings.specs.Nets.{net_of}
-use Rattle.wirings.proofs.Halves.{fewer, step_inside, gap_inside}
-use Rattle.apply_layers.proofs.Network.{Same, nothing-back, pair_back, returned}
+use Rattle.wirings.proofs.Halves.{step_inside, gap_inside}
+use Rattle.apply_layers.proofs.Network.{nothing-back, pair_back, returned}
 use Rattle.apply_layers.proofs.Lending.{same, same_then, inside_all}
 use Rattle.apply_layers.proofs.Halved.{halved, lengths, halved_top, halved_bottom, starts, top_below, for_pair, top_fits, top_long}
 use Rattle.apply_layers.proofs.Halved.{bottom_fits, for_layer, for_top, for_bottom, top_kept, bottom_kept, ran_top, ran_bottom}
