@@ -1,4 +1,5 @@
 pub mod Blocks
+pub mod Halved
 pub mod Lending
 pub mod Network
 pub mod Parts

@@ -1,24 +1,116 @@
--- The proof of the cycle of calls {run}. The measure is the number of places.
+-- The proof of the cycle of calls {run}.
 -- Assumes nothing.
 use native.Mathlib.Omega.{arith}
-use borrow.Author.Rules.{rules}
-use native.Mathlib.Nat.{le_refl}
-use mathlib.Core.Path.{◌≡◌, refl, sym, ◌∙◌}
-use mathlib.Core.Bool.{true, false}
-use mathlib.Core.List.{List, ◌++◌}
-use Prim.Native.Nat.{ℕ, ◌+◌, ◌-◌, ◌*◌, ◌≤◌, ◌<◌}
-use lib.ListN.{length, drop}
-use borrow.Rule.Slice.PartMut.{put_mid}
-use Rattle.counts.specs.Counts.{W, up}
-use Rattle.network.specs.Network.{down}
-use Rattle.wirings.specs.declared.Net.{Net}
-use Rattle.wirings.specs.Nets.{net_of, Spaced, IsHalf}
-use Rattle.wirings.proofs.Halves.{fewer, step_inside, gap_inside, spaced_as, is_top, is_bottom, bottom_starts}
-use Rattle.apply_layers.proofs.Network.{Same, W_two, nothing, pair, applied}
-use Rattle.apply_layers.proofs.Parts.{Room, room_after, fits, front_long, behind_long, front_kept, behind_kept}
-use Rattle.apply_layers.proofs.Lending.{same, same_then, span, Sizes, sizes, inside_all, to_pair, to-layer, to_top, to_bottom}
-use Rattle.apply_layers.proofs.Lending.{below_all, top_inside, top_ran, bottom_ran}
+use mathlib.Core.Path.{refl, sym}
+use Rattle.wirings.specs.Nets.{net_of}
+use Rattle.wirings.proofs.Halves.{step_inside, gap_inside}
+use Rattle.apply_layers.proofs.Network.{nothing, pair, applied}
+use Rattle.apply_layers.proofs.Lending.{same, same_then, inside_all}
+use Rattle.apply_layers.proofs.Halved.{halved, lengths, halved_top, halved_bottom, starts, top_below, for_pair, top_fits, top_long}
+use Rattle.apply_layers.proofs.Halved.{bottom_fits, for_layer, for_top, for_bottom, top_kept, bottom_kept, ran_top, ran_bottom}
 use Rattle.apply_forward.proofs.+run.Goals as goal
 
-abbrev run_at : ℕ → In 3 run-kinds.ps
-run_at t = and 3 run-kinds.ps (is 3 run-kinds.ps μ-run t) run.Pre
+pub returns-then-m-lt2 : goal.returns-then-m-lt2
+returns-then-m-lt2 t c = let a = c.args in
+    nothing (net_of a.t a.o a.m a.apart) a.width a.o a.e a.bits.now a.blocks.now a.log.now c.if-m-lt2.true
+
+pub step-step-requires : goal.step-step-requires
+step-step-requires t c = let p = c.requires in
+    omega (arith, step_inside (inside_all p.0 p.1) c.if-m-lt2.false)
+
+pub gap-gap-requires : goal.gap-gap-requires
+gap-gap-requires t c = let p = c.requires in
+    omega (arith, gap_inside (inside_all p.0 p.1) c.if-m-lt2.false)
+
+pub pair-requires : goal.pair-requires
+pair-requires t c = let H = halved c.requires c.if-m-lt2.false c.step-step.ensures c.gap-gap.ensures in
+    for_pair H c.if-m-eq2.true
+
+pub returns-then-m-eq2 : goal.returns-then-m-eq2
+returns-then-m-eq2 t c = let a = c.args in
+    let H = halved c.requires c.if-m-lt2.false c.step-step.ensures c.gap-gap.ensures in
+    pair H.spaced a.width a.o a.e a.bits.now c.if-m-eq2.true c.pair.ensures
+
+pub overflow_mul-end : goal.overflow_mul-end
+overflow_mul-end t c = let H = halved c.requires c.if-m-lt2.false c.step-step.ensures c.gap-gap.ensures in
+    omega (arith, H.sizes.near)
+
+pub overflow_add-end : goal.overflow_add-end
+overflow_add-end t c = let H = halved c.requires c.if-m-lt2.false c.step-step.ensures c.gap-gap.ensures in
+    omega (arith, H.sizes.near)
+
+pub overflow_mul-end-2 : goal.overflow_mul-end-2
+overflow_mul-end-2 t c = let H = halved c.requires c.if-m-lt2.false c.step-step.ensures c.gap-gap.ensures in
+    omega (arith, top_fits H (same _ _))
+
+pub overflow_mul-cut : goal.overflow_mul-cut
+overflow_mul-cut t c = let H = halved c.requires c.if-m-lt2.false c.step-step.ensures c.gap-gap.ensures in
+    omega (arith, bottom_fits H (same _ _))
+
+pub overflow_add-at : goal.overflow_add-at
+overflow_add-at t c = let H = halved c.requires c.if-m-lt2.false c.step-step.ensures c.gap-gap.ensures in
+    omega (arith, starts H)
+
+pub layer-requires : goal.layer-requires
+layer-requires t c = let H = halved c.requires c.if-m-lt2.false c.step-step.ensures c.gap-gap.ensures in
+    for_layer H (same _ _) (omega arith) (omega arith) (omega (arith, H.sizes.count))
+
+pub slice_bounds-run-end : goal.slice_bounds-run-end
+slice_bounds-run-end t c = let H = halved c.requires c.if-m-lt2.false c.step-step.ensures c.gap-gap.ensures in
+    top_fits H (lengths c.layer.auto.blocks c.layer.auto.log)
+
+pub slice_bounds-run-end-2 : goal.slice_bounds-run-end-2
+slice_bounds-run-end-2 t c = let H = halved c.requires c.if-m-lt2.false c.step-step.ensures c.gap-gap.ensures in
+    sym (top_long H (lengths c.layer.auto.blocks c.layer.auto.log))
+
+pub run-top-requires : goal.run-top-requires
+run-top-requires t c = let H = halved c.requires c.if-m-lt2.false c.step-step.ensures c.gap-gap.ensures in
+    (omega (arith, c.decreases), for_top H (lengths c.layer.auto.blocks c.layer.auto.log) (omega (arith, H.sizes.count)))
+
+pub slice_bounds-run-count : goal.slice_bounds-run-count
+slice_bounds-run-count t c = let H = halved c.requires c.if-m-lt2.false c.step-step.ensures c.gap-gap.ensures in
+    let k1 = lengths c.layer.auto.blocks c.layer.auto.log in
+    let k2 = top_kept H k1 c.run-top.new.blocks c.run-top.auto.blocks c.run-top.auto.log in
+    bottom_fits H (same_then k1 k2)
+
+pub slice_bounds-run-start : goal.slice_bounds-run-start
+slice_bounds-run-start t c = let H = halved c.requires c.if-m-lt2.false c.step-step.ensures c.gap-gap.ensures in
+    let k1 = lengths c.layer.auto.blocks c.layer.auto.log in
+    let k2 = top_kept H k1 c.run-top.new.blocks c.run-top.auto.blocks c.run-top.auto.log in
+    bottom_fits H (same_then k1 k2)
+
+pub run-bottom-requires : goal.run-bottom-requires
+run-bottom-requires t c = let H = halved c.requires c.if-m-lt2.false c.step-step.ensures c.gap-gap.ensures in
+    let k1 = lengths c.layer.auto.blocks c.layer.auto.log in
+    let k2 = top_kept H k1 c.run-top.new.blocks c.run-top.auto.blocks c.run-top.auto.log in
+    (omega (arith, c.decreases), for_bottom H (same_then k1 k2) (omega (arith, H.sizes.count, c.run-top.ensures.0)))
+
+pub layer-requires-2 : goal.layer-requires-2
+layer-requires-2 t c = let H = halved c.requires c.if-m-lt2.false c.step-step.ensures c.gap-gap.ensures in
+    let k1 = lengths c.layer.auto.blocks c.layer.auto.log in
+    let k2 = top_kept H k1 c.run-top.new.blocks c.run-top.auto.blocks c.run-top.auto.log in
+    let k3 = bottom_kept H (same_then k1 k2) c.run-bottom.new.blocks c.run-bottom.auto.blocks c.run-bottom.auto.log in
+    for_layer H (same_then (same_then k1 k2) k3) (omega arith) (omega arith)
+    (omega (arith, H.sizes.count, c.run-top.ensures.0, c.run-bottom.ensures.0))
+
+pub overflow_add-result-2 : goal.overflow_add-result-2
+overflow_add-result-2 t c = let H = halved c.requires c.if-m-lt2.false c.step-step.ensures c.gap-gap.ensures in
+    let z = H.sizes in
+    omega (arith, z.count, z.enough, z.short, c.run-top.ensures.0, c.run-bottom.ensures.0)
+
+pub returns : goal.returns
+returns t c = let a = c.args in
+    let H = halved c.requires c.if-m-lt2.false c.step-step.ensures c.gap-gap.ensures in
+    let z = H.sizes in
+    let far1 = c.run-top.ensures.0 in
+    let far2 = c.run-bottom.ensures.0 in
+    let k1 = lengths c.layer.auto.blocks c.layer.auto.log in
+    let k2 = top_kept H k1 c.run-top.new.blocks c.run-top.auto.blocks c.run-top.auto.log in
+    let k3 = bottom_kept H (same_then k1 k2) c.run-bottom.new.blocks c.run-bottom.auto.blocks c.run-bottom.auto.log in (
+      omega (arith, z.count, far1, far2),
+      applied H.spaced z.two (halved_top H) (halved_bottom H) a.width a.o a.bits.now (omega (arith, z.count, z.room, far1, far2))
+          k1 k2 k3 refl far1 far2 c.layer.ensures
+          (ran_top H k1 c.run-top.new.blocks c.run-top.auto.blocks (top_below H _) c.run-top.ensures.1)
+          (ran_bottom H (same_then k1 k2) c.run-bottom.new.blocks c.run-bottom.ensures.1)
+          c.layer-2.ensures,
+    )
