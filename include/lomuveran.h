@@ -1,4 +1,4 @@
-/* Lomuveran: a block mixer. The C interface of the static library libcapi.a, which `rt staticlib capi` writes to
+/* Lomuveran: a block mixer. The C interface of the static library libcapi.a, which `tools/library` puts into
  * target/staticlib/ (x86-64 Linux).
  *
  * Each call asks its questions in a fixed sequence and answers the number of the first that gets a no; success is number 0.

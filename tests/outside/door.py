@@ -25,7 +25,7 @@ class Door:
     def __init__(self, root, scratch, shell):
         self.shell, self.home, self.at = shell, os.path.join(scratch, 'home'), os.path.join(scratch, 'here')
         self.own_tools = shell.startswith('busybox')  # it has its own, and takes no stand-in from the path
-        for name in 'lomuveran', 'examples', 'target/bin':
+        for name in 'lomuveran', 'examples', 'tools/programs', 'target/bin':
             source, copy = os.path.join(root, name), os.path.join(self.home, name)
             os.makedirs(os.path.dirname(copy), exist_ok=True)
             (shutil.copytree if os.path.isdir(source) else shutil.copy)(source, copy)
