@@ -97,7 +97,7 @@ class Door:
     @contextlib.contextmanager
     def stand_in(self, **tools):
         """The environment in which each of these tools of the system is a script; the tool itself is REAL."""
-        folder = os.path.join(self.home, 'tools')
+        folder = os.path.join(self.home, 'stand-ins')
         os.mkdir(folder)
         try:
             for tool, text in tools.items():

@@ -247,7 +247,7 @@ exit 7
 
 def build(door):
     door.fresh(month=b'abcdef')
-    away, log, tools = door.home + '/away', door.home + '/log', door.home + '/tools'
+    away, log, kit = door.home + '/away', door.home + '/log', door.home + '/kit'
     os.rename(door.bin, away)
     path = os.environ['PATH']
     plain = ':'.join(p for p in path.split(':') if not os.path.exists(os.path.join(p, 'rt')))
@@ -258,11 +258,11 @@ def build(door):
         os.makedirs(f'{door.home}/crates/{program}')
     door.call(3, 'mix', '2', 'month', files={'month': 0o644}, env={'PATH': plain},
               err=shown + 'the Rattle kit (rt), which builds them, is not on the path.')
-    os.mkdir(tools)
-    with open(tools + '/rt', 'w') as f:
+    os.mkdir(kit)
+    with open(kit + '/rt', 'w') as f:
         f.write(RT.replace('LOG', log).replace('BIN', away))
-    os.chmod(tools + '/rt', 0o755)
-    env = {'PATH': tools + ':' + plain}
+    os.chmod(kit + '/rt', 0o755)
+    env = {'PATH': kit + ':' + plain}
     status, out, err = door.run('mix', '2', 'month', env=env | {'RT_FAILS': 'mix'})
     same((status, out, re.sub(r'[0-9]+ s', 'N s', err).splitlines()[1:]), (3, '', ['  draw proved (N s)', '  sheet proved (N s)',
          'The programs could not be built: tools/programs tells why.']), 'a build that fails')
@@ -275,7 +275,7 @@ def build(door):
         same(f.read(), ''.join(f'{program}: rt run\n' for program in PROGRAMS), 'built once')
     same(os.path.exists(door.home + '/target/building'), False, 'the mark of the build')
     same(stat.S_IMODE(os.stat(door.bin).st_mode) & 0o055, 0o055, 'the programs are for everybody')
-    for name in away, tools, door.home + '/crates':
+    for name in away, kit, door.home + '/crates':
         shutil.rmtree(name)
     os.remove(door.home + '/crates.txt')
 
