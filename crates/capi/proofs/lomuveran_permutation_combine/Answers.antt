@@ -12,4 +12,4 @@ returns c = let a = c.args in
     reply-crosses a.first.now c.give.ensures
     (c.combine.ensures
     ∙ ap (combine_call c.record_of-p.result) c.record_of.ensures
-    ∙ ap (λ (p : Permutation). combine_call p (record_in a.second.now a.second-fixed)) c.record_of-p.ensures)
+    ∙ ap (λ (p : Permutation). combine_call p (record_in a.second.now a.second_fixed)) c.record_of-p.ensures)
