@@ -1,5 +1,5 @@
-/* Lomuveran: a block mixer. The C interface of the static library libcapi.a, which `rt staticlib capi` writes to
- * target/staticlib/ (x86-64 Linux).
+/* Lomuveran: a block mixer. The C interface of the static library libcapi.a, which `tools/library` puts into
+ * target/staticlib/ (Linux on x86-64-v2: processors with SSE4.2).
  *
  * Each call asks its questions in a fixed sequence and answers the number of the first that gets a no; success is number 0.
  * A refused call writes nothing, an accepted one nothing beyond what is said here. Any number, any length and any contents may

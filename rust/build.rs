@@ -1,4 +1,4 @@
-//! Links libcapi.a: from the folder in LOMUVERAN_LIB_DIR, or else from ../target/staticlib, where `rt staticlib capi` writes it.
+//! Links libcapi.a: from the folder in LOMUVERAN_LIB_DIR, or else from ../target/staticlib, where `tools/library` puts it.
 
 use std::{env, path::PathBuf, process::exit};
 
@@ -8,7 +8,7 @@ fn main() {
     let folder = env::var_os("LOMUVERAN_LIB_DIR").map_or_else(|| here.join("../target/staticlib"), PathBuf::from);
     let library = folder.join("libcapi.a");
     if !library.is_file() {
-        eprintln!("no library at {}: run `rt staticlib capi`, or name its folder in LOMUVERAN_LIB_DIR", library.display());
+        eprintln!("no library at {}: run tools/library, or name its folder in LOMUVERAN_LIB_DIR", library.display());
         exit(1);
     }
     println!("cargo:rerun-if-changed={}", library.display());

@@ -1,5 +1,5 @@
 //! Lomuveran mixes blocks into a secret order and puts them back, by a Waksman network: a fixed list of switches, each of which
-//! exchanges two blocks or leaves them. This package calls the proved library (`rt staticlib capi`) through its C interface.
+//! exchanges two blocks or leaves them. This package calls the proved library (`tools/library`) through its C interface.
 //!
 //! [`Setting`] and [`Permutation`] own their memory and are what most programs need; [`Permutation::ranked`] gives any order
 //! of a few places by its number. The functions are the library's calls as they are, on lent slices. Each call asks its

@@ -49,7 +49,8 @@ def whole_job(door):
 
 
 def names(door):
-    for name in 'a month', '-month', '--', '-', '-n', 'a\nmonth', 'month\n', ' ', '*', '$(x)', 'a\\nb', "'", '"', 'é', 'x' * 249:
+    # ('\udce9' is the byte e9, which is not UTF-8)
+    for name in 'a month', '-month', '--', '-', '-n', 'a\nmonth', 'month\n', ' ', '*', '$(x)', 'a\\nb', "'", '"', 'é', '\udce9', 'x' * 249:
         door.fresh()
         door.write(name, b'abcdef')
         files = {name: 0o644} | made(name)
@@ -66,16 +67,17 @@ def names(door):
         door.call(0, 'type', '-c', '-s', files=files, err='')
         for kind in 'sheet', 'label':
             same(door.read('-s' + '.label' * (kind == 'label')), door.read(f'{name}.{kind}'), f'{name!r}: the {kind} typed')
-    for folder in '-d', 'a folder\n', '.', '..', '/':
+    for folder in '-d', 'a folder\n', '\udce9', '.', '..', '/':
         door.fresh()
         os.makedirs(door.path('in/-d'))
         os.makedirs(door.path('in/a folder\n'))
+        os.makedirs(door.path('in/\udce9'))
         name = door.path('in/month') if folder == '/' else f'{folder}/month'
         door.write(os.path.normpath(os.path.join('in', name)), b'abcdef')
         status, _, err = door.run('mix', '2', name, cwd=door.path('in'))
         same((status, err), (0, ''), f'a month in {folder!r}')
         same(sum(f.endswith(tuple(made('month'))) for f in door.files()), 3, f'a month in {folder!r}: results')
-        same(len(door.files()), 7, f'a month in {folder!r}: nothing more')
+        same(len(door.files()), 8, f'a month in {folder!r}: nothing more')
     door.fresh()
     door.write('x' * 250, b'abcdef')
     door.call(3, 'mix', '2', 'x' * 250, files={'x' * 250: 0o644}, err='x' * 250 + '.sheet: File name too long')

@@ -70,7 +70,7 @@ def main():
             for name in ('crates/capi/src/lib.rt', 'crates/capi_values/src/lib.rt', 'include/lomuveran.h', 'rust/src/ffi.rs')}
     lib, values, header, ffi = read.values()
     calls = from_rust(lib, r'pub extern "C"')
-    structs = fields(values, r'#\[repr\(C\)\] pub struct (\w+) \{([^}]*)\}')
+    structs = fields(values, r'#\[repr\(C\)\] #\[derive\(Clone, Copy\)\] pub struct (\w+) \{([^}]*)\}')
     defined = subprocess.run(['nm', '--defined-only', '--extern-only', library], check=True, capture_output=True, text=True).stdout
     wrong = []
     compared = 0

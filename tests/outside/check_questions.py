@@ -73,7 +73,7 @@ def main():
         same(by_header.get(name), by_page.get('convert'), f'the questions of {name}')
     numbers = set()
     for path in (root / 'crates').glob('*/specs/*.antt'):
-        numbers |= {int(n) for n in re.findall(r'\bask(?:Each)? (\d+)\b', path.read_text(encoding='utf-8'))}
+        numbers |= {int(n) for n in re.findall(r'\bask(?:_each)? (\d+)\b', path.read_text(encoding='utf-8'))}
     same(numbers, set(asked), 'the definitions ask the questions of docs/API.md')
     return ended('lists of questions')
 

@@ -25,7 +25,7 @@ class Door:
     def __init__(self, root, scratch, shell):
         self.shell, self.home, self.at = shell, os.path.join(scratch, 'home'), os.path.join(scratch, 'here')
         self.own_tools = shell.startswith('busybox')  # it has its own, and takes no stand-in from the path
-        for name in 'lomuveran', 'examples', 'target/bin':
+        for name in 'lomuveran', 'examples', 'tools/programs', 'target/bin':
             source, copy = os.path.join(root, name), os.path.join(self.home, name)
             os.makedirs(os.path.dirname(copy), exist_ok=True)
             (shutil.copytree if os.path.isdir(source) else shutil.copy)(source, copy)
@@ -97,7 +97,7 @@ class Door:
     @contextlib.contextmanager
     def stand_in(self, **tools):
         """The environment in which each of these tools of the system is a script; the tool itself is REAL."""
-        folder = os.path.join(self.home, 'tools')
+        folder = os.path.join(self.home, 'stand-ins')
         os.mkdir(folder)
         try:
             for tool, text in tools.items():

@@ -1,5 +1,6 @@
 """The script `lomuveran` in trouble: names that are taken, several at once, signals, full disks, programs that fail, no programs."""
 import os
+import re
 import shutil
 import signal
 import stat
@@ -224,47 +225,57 @@ def printing_that_fails(door):
 
 # ---- the build
 
+PROGRAMS = ('draw', 'sheet', 'mix', 'unmix', 'show', 'settings', 'chart', 'list')
+# It runs the program that it has built, and ends with that program's status.
 RT = '''#!/bin/sh
-echo "rt $*" >>'LOG'
-mkdir -p target/bin
-echo "fn answers::accept: proved"
-echo "rt: answers proved (3 s)"
-sleep 1
-echo "rt: counts proved (8 s)" >&2
-[ -z "${RT_FAILS:-}" ] || exit 1
-for p in draw sheet mix unmix show settings chart list; do cp -p 'BIN'/$p target/bin/$p; done
+p=${PWD##*/}
+echo "$p: rt $*" >>'LOG'
+echo "rt: chose --jobs 2 for $p" >&2
+echo "fn $p::main: proved" >&2
+echo "crate $p: modules loaded=0 checked=40" >&2
+sleep 0.2
+[ "$p" != "${RT_FAILS:-}" ] || { echo "fn $p::read: not proved" >&2; exit 1; }
+echo "logic=proved functions=7" >&2
+mkdir -p out
+cp -p 'BIN'/$p out/$p
+echo "rt: running out/$p; to give it other input, run that file yourself" >&2
+echo "usage: $p" >&2
+echo "what $p made"
+exit 7
 '''
 
 
 def build(door):
     door.fresh(month=b'abcdef')
-    away, log, tools = door.home + '/away', door.home + '/log', door.home + '/tools'
+    away, log, kit = door.home + '/away', door.home + '/log', door.home + '/kit'
     os.rename(door.bin, away)
     path = os.environ['PATH']
     plain = ':'.join(p for p in path.split(':') if not os.path.exists(os.path.join(p, 'rt')))
     shown = f'The programs are not in {door.bin}, and '
     door.call(3, 'mix', '2', 'month', files={'month': 0o644}, err=shown + 'there are no crates to build them from.')
     open(door.home + '/crates.txt', 'w').close()
+    for program in PROGRAMS:
+        os.makedirs(f'{door.home}/crates/{program}')
     door.call(3, 'mix', '2', 'month', files={'month': 0o644}, env={'PATH': plain},
               err=shown + 'the Rattle kit (rt), which builds them, is not on the path.')
-    os.mkdir(tools)
-    with open(tools + '/rt', 'w') as f:
+    os.mkdir(kit)
+    with open(kit + '/rt', 'w') as f:
         f.write(RT.replace('LOG', log).replace('BIN', away))
-    os.chmod(tools + '/rt', 0o755)
-    env = {'PATH': tools + ':' + plain}
-    status, out, err = door.run('mix', '2', 'month', env=env | {'RT_FAILS': '1'})
-    same((status, out, err.splitlines()[1:]), (3, '', ['  answers proved (3 s)', '  counts proved (8 s)',
-         'The programs could not be built: rt check tells why.']), 'a build that fails')
+    os.chmod(kit + '/rt', 0o755)
+    env = {'PATH': kit + ':' + plain}
+    status, out, err = door.run('mix', '2', 'month', env=env | {'RT_FAILS': 'mix'})
+    same((status, out, re.sub(r'[0-9]+ s', 'N s', err).splitlines()[1:]), (3, '', ['  draw proved (N s)', '  sheet proved (N s)',
+         'The programs could not be built: tools/programs tells why.']), 'a build that fails')
     same(door.files(), {'month': 0o644}, 'a build that fails: files')
     os.remove(log)
     running = [door.start('mix', '2', 'month', env=env), door.start('help', env=env), door.start('mix', '1', 'month', env=env)]
     errs = [process.communicate()[1] for process in running]
     same(sorted(p.returncode for p in running), [0, 0, 3], f'two at once that build {errs}')
     with open(log) as f:
-        same(f.read(), 'rt check draw sheet mix unmix show settings chart list\n', 'built once')
+        same(f.read(), ''.join(f'{program}: rt run\n' for program in PROGRAMS), 'built once')
     same(os.path.exists(door.home + '/target/building'), False, 'the mark of the build')
     same(stat.S_IMODE(os.stat(door.bin).st_mode) & 0o055, 0o055, 'the programs are for everybody')
-    for name in away, tools:
+    for name in away, kit, door.home + '/crates':
         shutil.rmtree(name)
     os.remove(door.home + '/crates.txt')
 
