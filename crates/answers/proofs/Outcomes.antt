@@ -3,14 +3,13 @@
 use mathlib.Core.Path.{◌≡◌, refl, sym, ap, ◌∙◌}
 use mathlib.Core.Bool.{Bool, true, false}
 use mathlib.Core.List.{List, [], ◌∷◌, ◌++◌}
-use Prim.Native.Nat.{ℕ, zero, suc, ◌≤◌, ◌<◌}
+use Prim.Native.Nat.{ℕ, ◌<◌}
 use native.Mathlib.Omega.{arith}
-use lib.ListN.{length}
 use Rattle.answers.specs.declared.Answer.{Answer}
 use Rattle.answers.specs.Answers.{refusal, accepted}
-use Rattle.answers.specs.Questions.{Question, ask, Verdict, all_yes, no_at, first_no, Numbered}
+use Rattle.answers.specs.Questions.{Question, Verdict, all_yes, no_at, first_no, Numbered}
 use Rattle.answers.specs.Buffers.{overlay}
-use Rattle.answers.specs.Outcomes.{answer_of, buffer_of, Outcome, outcome, settled, Logged, logged, settled_logged}
+use Rattle.answers.specs.Outcomes.{answer_of, outcome, settled, logged, settled_logged}
 
 module _ (v : Verdict) (count : ℕ) (words b : List ℕ) {a : Answer} {b' : List ℕ} where
   -- a refused call: the refusal, and the buffer as it was

@@ -3,12 +3,11 @@
 use mathlib.Core.Path.{◌≡◌, refl, sym, ap, ◌∙◌}
 use mathlib.Core.Bool.{Bool, true, false}
 use mathlib.Core.List.{List, [], ◌∷◌, ◌++◌}
-use Prim.Native.Nat.{ℕ, zero, suc, ◌+◌, ◌-◌, ◌≤◌, ◌<◌}
+use Prim.Native.Nat.{ℕ, zero, suc, ◌+◌, ◌≤◌, ◌<◌}
 use native.Mathlib.Numerals.{add-one}
 use native.Mathlib.Omega.{arith}
-use native.Mathlib.Decide.{dec_lt, ℕ_discrete}
-use borrow.Author.Tests.{eq-eqb, ne_eqb, eqb-true}
-use Rattle.answers.specs.Questions.{Question, ask, ask_each, first_bad_from, first_bad, Verdict, all_yes, no_at, first_no, EachYes}
+use native.Mathlib.Decide.{dec_lt}
+use Rattle.answers.specs.Questions.{Question, ask, first_bad_from, first_bad, Verdict, all_yes, no_at, first_no, EachYes}
 
 -- a question that gets a yes is passed over; one that gets a no ends the sequence
 pub asked_yes : (q p : ℕ) (b : Bool) (qs : List Question) → b ≡ true → first_no (ask q p b ∷ qs) ≡ first_no qs

@@ -7,7 +7,7 @@ use lib.ListN.{length}
 use Rattle.answers.specs.Answers.{accepted}
 use Rattle.answers.specs.Questions.{Verdict, all_yes, first_no}
 use Rattle.answers.specs.Buffers.{overlay}
-use Rattle.answers.specs.Outcomes.{Logged, logged, settled_logged}
+use Rattle.answers.specs.Outcomes.{logged, settled_logged}
 use Rattle.answers.proofs.Buffers.{overlay_whole}
 use Rattle.counts.specs.Counts.{W}
 use Rattle.network.specs.Wiring.{Wiring, Lawful}

@@ -21,7 +21,7 @@ use Rattle.network.proofs.Places.{Lies, lies_top, lies_both, lies_below, crosses
 use Rattle.network.proofs.Where.{goes_to, across, across-below, through, in_halves, input, output}
 use Rattle.network.proofs.Order.{order-at}
 use Rattle.permutation.specs.Permutations.{IsPermutation}
-use Rattle.canonical.specs.Rule.{held, half, Apart, LowestStraight, Finished, order_of_half, Canonical}
+use Rattle.canonical.specs.Rule.{held, half, Apart, Finished, order_of_half, Canonical}
 use Rattle.canonical.specs.Obeys.{Obeys}
 use Rattle.canonical.proofs.Sides.{bit_at, bit_at_past, turn}
 use Rattle.canonical.proofs.Held.{entry_in}

@@ -1,12 +1,12 @@
 -- 02, F-7: the positions of a call's entries, and its log from the middle.
 -- Assumes nothing.
-use mathlib.Core.Path.{◌≡◌, refl, sym, ap, ◌∙◌}
+use mathlib.Core.Path.{◌≡◌, sym, ap, ◌∙◌}
 use mathlib.Core.List.{List, [], ◌++◌}
 use Prim.Native.Nat.{ℕ, ◌*◌, ◌<◌}
 use native.Mathlib.Omega.{arith}
 use lib.ListN.{length, get_or, take, drop}
-use Rattle.counts.specs.Counts.{W, E}
-use Rattle.network.specs.Wiring.{Wiring, Lawful, paper}
+use Rattle.counts.specs.Counts.{E}
+use Rattle.network.specs.Wiring.{Wiring, Lawful}
 use Rattle.network.specs.Network.{network}
 use Rattle.network.specs.Log.{Entry, entry_words, entries, none_such, entry_at}
 use Rattle.network.proofs.Shape.{entries-cut, entry_at_entries}
@@ -15,7 +15,7 @@ use Rattle.network.proofs.Positions.{apply_position, inverse_position}
 use Rattle.network.proofs.Paper.{paper_lawful}
 use Rattle.steps.specs.State.{State}
 use Rattle.steps.specs.Sequence.{set_entries}
-use Rattle.steps.specs.Run.{subnetworks, Of, run_set}
+use Rattle.steps.specs.Run.{subnetworks, run_set}
 use Rattle.steps.proofs.Lengths.{length-set_entries}
 use Rattle.steps.proofs.Running as running
 use Rattle.steps.proofs.Positions.{set_position}

@@ -7,7 +7,7 @@ use Rattle.network.specs.Log.{Entry, entry_words, entries, entry_at}
 use Rattle.steps.specs.Run.{subnetworks, Of}
 use Rattle.wirings.specs.declared.Topology.{Topology}
 use Rattle.wirings.specs.Nets.{wiring_of}
-use Rattle.claims.specs.Calls.{Direction, mixing, returning, Call, Kind, setting}
+use Rattle.claims.specs.Calls.{mixing, returning, Call, Kind, setting}
 use Rattle.claims.specs.Calls.{moving, ranking, described, outcome_of, wiring_of_call, count_of, written}
 
 -- an entry of the setter for n places: it is of a network within these, and has the position of that network's first bit

@@ -3,7 +3,6 @@
 use mathlib.Core.Path.{◌≡◌, refl}
 use mathlib.Core.List.{List, [], ◌∷◌, map}
 use Prim.Native.String.{String}
-use Prim.Native.Nat.{ℕ}
 use Rattle.answers.specs.Answers.{refusal, accepted}
 use Rattle.cmd_text.specs.Text.{text, digits, decimal, refusal_line}
 use Rattle.cmd_arguments.specs.declared.Argument.{Argument}

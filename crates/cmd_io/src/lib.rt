@@ -11,7 +11,14 @@ use cmd_arguments::{Argument, Got};
 use cmd_usage::Program;
 use std::env::{Env, FillError};
 use std::fs::{Files, OpenOptions};
-use std::io::{Error, ErrorKind, Print, Read};
+use std::io::{Error, Print, Read};
+
+// The system's numbers of what it says of a name: so a failure that is found here has the system's words too.
+const INVALID_ARGUMENT: i32 = 22;
+
+const NAME_TOO_LONG: i32 = 36;
+
+const NOT_TEXT: i32 = 84;
 
 // ---- arguments
 
@@ -133,13 +140,13 @@ pub fn read_named(rt: &HostRuntime, program: Program, k: usize, buf: &mut [u8]) 
             rt,
             program,
             b"",
-            Error::from(ErrorKind::InvalidFilename),
+            Error::from_raw_os_error(NAME_TOO_LONG),
         ),
         Err(FillError::NotPresent) => unread(
             rt,
             program,
             b"",
-            Error::from(ErrorKind::InvalidInput),
+            Error::from_raw_os_error(INVALID_ARGUMENT),
         ),
     }
 }
@@ -166,7 +173,7 @@ fn read_file(rt: &HostRuntime, program: Program, path: &[u8], buf: &mut [u8]) ->
 fn open(rt: &HostRuntime, path: &[u8]) -> Result<std::fs::File, Error> {
     match str::from_utf8(path) {
         Ok(text) => std::fs::open(rt, text),
-        Err(_) => Err(Error::from(ErrorKind::InvalidFilename)),
+        Err(_) => Err(Error::from_raw_os_error(NOT_TEXT)),
     }
 }
 

@@ -1,7 +1,7 @@
 -- What the program prints: case g of 01, no places, one, two, and each refusal, by computing the definition.
 -- Assumes nothing.
 use mathlib.Core.Path.{◌≡◌, refl}
-use mathlib.Core.List.{List, [], ◌∷◌, ◌++◌, map}
+use mathlib.Core.List.{List, [], ◌∷◌, map}
 use Prim.Native.Nat.{ℕ}
 use Rattle.answers.specs.Questions.{first_bad_from}
 use Rattle.counts.specs.Counts.{W, E, by_halves}

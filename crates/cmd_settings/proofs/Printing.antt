@@ -1,14 +1,13 @@
 -- The text of an input, return by return of `settings_text`.
 -- Assumes nothing.
-use mathlib.Core.Path.{◌≡◌, refl, sym, ap, ◌∙◌}
+use mathlib.Core.Path.{◌≡◌, sym, ap, ◌∙◌}
 use mathlib.Core.List.{List}
 use Prim.Native.Nat.{ℕ, ◌≤◌, ◌<◌}
 use native.Mathlib.Omega.{arith}
 use lib.ListN.{length, take, length-append}
-use lib.Seq.{take_at}
 use Rattle.answers.specs.declared.Answer.{Answer}
 use Rattle.answers.specs.Questions.{Verdict, all_yes, no_at, first_no}
-use Rattle.answers.specs.Outcomes.{answer_of, buffer_of, Outcome, outcome}
+use Rattle.answers.specs.Outcomes.{answer_of, Outcome, outcome}
 use Rattle.counts.specs.Counts.{W, E}
 use Rattle.answers.specs.Buffers.{Put}
 use Rattle.cmd_text.specs.Text.{decimal, refusal_line}
@@ -16,9 +15,7 @@ use Rattle.cmd_text.specs.Written.{written}
 use Rattle.cmd_text.proofs.Decimal.{digits_few}
 use Rattle.cmd_text.proofs.Lines.{bits_within}
 use Rattle.cmd_text.proofs.Written.{text-written}
-use Rattle.network.specs.Wiring.{paper}
-use Rattle.steps.specs.Setting.{setting_for}
-use Rattle.cmd_read_order.specs.Orders.{count_in, order_in, order_questions, order_setting, reported, order_report}
+use Rattle.cmd_read_order.specs.Orders.{count_in, order_questions, order_setting, reported, order_report}
 use Rattle.cmd_read_order.proofs.Outcomes.{Accepted, order-accepted, report_outcome, report_entries}
 use Rattle.cmd_settings.specs.Settings.{setting_lines, text_of, settings_text, settings_call}
 

@@ -1,15 +1,14 @@
 -- From an order's setting to its sheet.
 -- Assumes nothing.
-use mathlib.Core.Path.{◌≡◌, refl, sym, ap, ◌∙◌}
+use mathlib.Core.Path.{◌≡◌, refl, ap, ◌∙◌}
 use mathlib.Core.List.{List, []}
-use Prim.Native.Nat.{ℕ, ◌+◌, ◌*◌, ◌≤◌, ◌<◌}
+use Prim.Native.Nat.{ℕ, ◌≤◌}
 use native.Mathlib.Omega.{arith}
 use borrow.Author.Tests.{eqb-true}
 use lib.Dec.{eqb}
-use lib.ListN.{length, get_or, take}
+use lib.ListN.{length, take}
 use lib.Seq.{length-take-le}
 use Rattle.answers.specs.declared.Answer.{Answer}
-use Rattle.answers.specs.Answers.{refusal}
 use Rattle.answers.specs.Questions.{Verdict, all_yes, no_at, first_no}
 use Rattle.answers.specs.Outcomes.{answer_of, Outcome, outcome}
 use Rattle.answers.proofs.Questions.{passed, both_pass}
@@ -23,7 +22,7 @@ use Rattle.permutation.proofs.Permutations.{passes_permutation}
 use Rattle.canonical.proofs.Only.{canonical_bits}
 use Rattle.steps_canonical.proofs.Whole.{setting_canonical}
 use Rattle.sheets.specs.Sheet.{sheet}
-use Rattle.sheets.specs.Calls.{write_sheet, Writable}
+use Rattle.sheets.specs.Calls.{write_sheet}
 use Rattle.sheets.proofs.Round.{write_accepts}
 use Rattle.sheets.proofs.Writing.{sheet-length}
 use Rattle.steps.specs.Setting.{setting_for}

@@ -1,11 +1,10 @@
 -- The whole text, and the call.
 -- Assumes nothing.
-use mathlib.Core.Path.{◌≡◌, refl, sym, ap, ◌∙◌}
-use mathlib.Core.List.{List, [], ◌∷◌, ◌++◌}
-use Prim.Native.Nat.{ℕ, ◌+◌, ◌*◌, ◌/◌, ◌^◌, ◌%◌, ◌≤◌, ◌<◌}
+use mathlib.Core.Path.{◌≡◌, refl, ap, ◌∙◌}
+use mathlib.Core.List.{List, ◌++◌}
+use Prim.Native.Nat.{ℕ, ◌+◌, ◌*◌, ◌≤◌, ◌<◌}
 use native.Mathlib.Omega.{arith}
 use lib.ListN.{length, take, length-append}
-use lib.Seq.{length-take-le}
 use Rattle.answers.specs.declared.Answer.{Answer}
 use Rattle.answers.specs.Answers.{accepted}
 use Rattle.answers.specs.Questions.{first_no}
@@ -14,8 +13,6 @@ use Rattle.answers.specs.Outcomes.{outcome}
 use Rattle.answers.proofs.Outcomes.{ends_refused, ends-accepted}
 use Rattle.network.specs.Wiring.{paper}
 use Rattle.network.specs.Blocks.{order_of}
-use Rattle.network.proofs.Paper.{paper_lawful}
-use Rattle.network.proofs.Order.{length-order}
 use Rattle.sheets.specs.Calls.{places_in, read_questions, setting_in, setting_outcome, read_setting}
 use Rattle.answers.proofs.Putting.{put_then, put_length}
 use Rattle.cmd_text.specs.Text.{text, decimal, bits_text, line}

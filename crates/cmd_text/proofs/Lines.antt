@@ -1,19 +1,17 @@
 -- Bytes put into a buffer, one part behind another; how long the texts get.
 -- Assumes nothing.
 use mathlib.Core.Path.{◌≡◌, refl, sym, ap, ◌∙◌}
-use mathlib.Core.Bool.{Bool, true, false}
 use mathlib.Core.List.{List, [], ◌∷◌, ◌++◌}
-use Prim.Native.Nat.{ℕ, zero, suc, ◌+◌, ◌-◌, ◌/◌, ◌%◌, ◌^◌, ◌≤◌, ◌<◌}
+use Prim.Native.Nat.{ℕ, zero, suc, ◌+◌, ◌/◌, ◌%◌, ◌^◌, ◌≤◌, ◌<◌}
 use native.Mathlib.Numerals.{add-one}
 use native.Mathlib.Omega.{arith}
-use lib.Dec.{eqb}
 use lib.ListN.{length, get_or, take, set, length-append, length-set}
 use lib.Seq.{take-suc, take_all, length-take-le}
 use borrow.Author.Tests.{ne_eqb}
 use Rattle.answers.specs.Buffers.{overlay, Put}
 use Rattle.answers.proofs.Buffers.{overlay_none, overlay-one, overlay_more, overlay-length}
 use Rattle.answers.proofs.Putting.{put_then}
-use Rattle.cmd_text.specs.Text.{text, decimal, character, characters, bits_text, line, refusal_line}
+use Rattle.cmd_text.specs.Text.{text, decimal, character, characters, bits_text, refusal_line}
 use Rattle.cmd_text.proofs.Decimal.{decimal-one, decimal_more, digits_few}
 
 -- ---- a part at a time

@@ -6,7 +6,7 @@ use native.Mathlib.Omega.{arith}
 use native.Mathlib.Decide.{dec_lt}
 use borrow.Author.Tests.{lt-ltb, le-ltb}
 use Rattle.control_sides.proofs.Pairs.{neighbours}
-use Rattle.network.specs.Wiring.{paper, neighbour}
+use Rattle.network.specs.Wiring.{paper}
 use Rattle.steps.specs.Steps.{other}
 use Rattle.wirings.specs.declared.Topology.{Topology}
 use Rattle.wirings.specs.declared.Topology.TheVariants.{Paper, Neighbour}

@@ -1,6 +1,6 @@
 -- The bytes of a number of bytes, and two parts of bytes switched as numbers.
 -- Assumes nothing.
-use Rattle.std.proofs.Common.{◌≡◌, ℕ, zero, suc, ◌+◌, ◌-◌, ◌*◌, ◌/◌, ◌%◌, ◌<◌, ◌≤◌, List, get_or, set, refl, ap, ◌∙◌, arith}
+use Rattle.std.proofs.Common.{◌≡◌, ℕ, zero, suc, ◌+◌, ◌*◌, ◌/◌, ◌%◌, ◌<◌, ◌≤◌, List, get_or, set, refl, ap, ◌∙◌, arith}
 use Rattle.exchange_words.specs.Bytes.{bytes_switched}
 use Rattle.exchange_words.specs.Words.{number, byte_of, from, written, pick}
 use borrow.Rule.Slice.PartMut.{mid_of}

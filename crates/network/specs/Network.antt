@@ -1,6 +1,6 @@
 -- The network of m places (01, 'The network').
 -- Assumes nothing: these are definitions.
-use Rattle.std.specs.Prelude.{Bool, true, false, ℕ, zero, suc, ◌+◌, ◌-◌, ltb}
+use Rattle.std.specs.Prelude.{true, false, ℕ, zero, suc, ◌+◌, ◌-◌, ltb}
 use Rattle.counts.specs.Counts.{up}
 
 -- k = m/2 rounded up is `up m` (crate counts); the bottom network has the rest

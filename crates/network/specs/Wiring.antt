@@ -1,7 +1,7 @@
 -- A wiring: how the places of a network fall into pairs, and the pairs' places into the halves (01, 'The network'; 001, Figure 2;
 -- 02, F-6).
 -- Assumes nothing: these are definitions.
-use Rattle.std.specs.Prelude.{◌≡◌, Bool, true, false, not, cond, ℕ, suc, ◌+◌, ◌-◌, ◌*◌, ◌/◌, ◌%◌, ◌<◌, ltb, eqb}
+use Rattle.std.specs.Prelude.{◌≡◌, Bool, true, false, cond, ℕ, suc, ◌+◌, ◌-◌, ◌*◌, ◌/◌, ◌%◌, ◌<◌, ltb, eqb}
 
 -- a side of a pair: the pair, and false for the place that feeds the top when its switch is straight, true for the other
 abbrev pub Side : Type 0

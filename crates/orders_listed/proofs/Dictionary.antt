@@ -58,7 +58,7 @@ rising (suc n) r s l h = on (dec_lt (r / f) (s / f)) (dec_lt (s / f) (r / f)) (r
         inr (
           e,
           subst (λ q. Before (map (past q) (order_at n (r % f))) (map (past (s / f)) (order_at n (s % f)))) (sym e)
-          (before-map (past (s / f)) (past_rises (s / f)) (order_at n (r % f)) (order_at n (s % f)) b),
+              (before-map (past (s / f)) (past_rises (s / f)) (order_at n (r % f)) (order_at n (s % f)) b),
         )
 
 -- two ranks of one order are the same

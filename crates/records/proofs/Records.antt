@@ -12,7 +12,7 @@ use lib.Seq.{length-take-le, get_or-take, get_or-set_other, take-set-lt}
 use borrow.Author.Tests.{leb-true, eqb-true}
 use Rattle.answers.specs.Questions.{ask, ask_each, first_bad}
 use Rattle.answers.proofs.Questions.{passed, all_good, none_bad}
-use Rattle.permutation.specs.Permutations.{bit, first_bad_entry, IsPermutation, exchanged, combined, inverted, fixed_points}
+use Rattle.permutation.specs.Permutations.{bit, first_bad_entry, exchanged, combined, inverted, fixed_points}
 use Rattle.permutation.proofs.Permutations.{passes_permutation}
 use Rattle.permutation.proofs.Sweeps.{counted_within}
 use Rattle.permutation.proofs.Inverses.{inverted_permutation}

@@ -21,7 +21,6 @@ use Rattle.questions.proofs.Asked.{few_yes, few_no, order_yes, order_no}
 use Rattle.records.specs.Records.{record_of, list_of, length_asks, questions_of, WellFormed, exchange_asks, combine_asks, from_list_asks}
 use Rattle.records.specs.Records.{reply, record_after, replied, identity_call, from_list_call, exchange_call, combine_call, fixed_points_call}
 use Rattle.records.specs.declared.Permutation.{Permutation}
-use Rattle.records.specs.declared.Reply.{Reply}
 
 module _ (qs : List Question) (count : ℕ) (result handed : Permutation) {a : Answer} {p : Permutation} where
   pub replies_refused : {q k : ℕ} → first_no qs ≡ no_at q k → a ≡ refusal q k → p ≡ handed → reply a p ≡ replied qs count result handed

@@ -10,7 +10,7 @@ use lib.Seq.{take_all}
 use Rattle.answers.specs.Answers.{accepted}
 use Rattle.answers.specs.Questions.{all_yes, first_no}
 use Rattle.answers.specs.Buffers.{overlay}
-use Rattle.answers.specs.Outcomes.{Outcome, outcome}
+use Rattle.answers.specs.Outcomes.{outcome}
 use Rattle.answers.proofs.Questions.{each_yes}
 use Rattle.answers.proofs.Buffers.{overlay_read}
 use Rattle.answers.proofs.Outcomes.{accepted_when, numbered_both}

@@ -1,7 +1,7 @@
 -- The sequence of the steps for a network, as log entries: kind, start, size (01, 'Steps of the setter, and the log'),
 -- and the position of the network's first bit (02, F-7).
 -- Assumes nothing: these are definitions.
-use Rattle.std.specs.Prelude.{Bool, true, false, cond, List, [], ◌∷◌, ◌++◌, ℕ, zero, suc, ◌+◌, ◌-◌, ltb}
+use Rattle.std.specs.Prelude.{true, false, cond, List, [], ◌∷◌, ◌++◌, ℕ, zero, suc, ◌+◌, ◌-◌, ltb}
 use Rattle.counts.specs.Counts.{up}
 use Rattle.network.specs.Wiring.{Wiring}
 use Rattle.network.specs.Network.{Network, wires, split, network, switch_count}

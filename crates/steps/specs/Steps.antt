@@ -1,6 +1,6 @@
 -- The setter's six steps, as 01 numbers them, over a wiring ('Steps of the setter, and the log').
 -- Assumes nothing: these are definitions.
-use Rattle.std.specs.Prelude.{Bool, true, false, not, cond, List, ℕ, zero, suc, ◌+◌, ◌-◌, ◌*◌, ◌/◌, ◌%◌, ltb, eqb, get_or}
+use Rattle.std.specs.Prelude.{Bool, false, not, cond, ℕ, zero, suc, ◌+◌, ◌-◌, ◌*◌, ◌/◌, ◌%◌, ltb, eqb, get_or}
 use Rattle.counts.specs.Counts.{up}
 use Rattle.network.specs.Wiring.{Side, Wiring}
 use Rattle.steps.specs.Sweeps.{look, seek, store, each, act, none_marked, lowest_unmarked}

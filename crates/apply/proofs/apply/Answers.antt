@@ -1,6 +1,5 @@
 -- The paper's case.
 -- Assumes nothing.
-use borrow.Author.Rules.{rules}
 use Rattle.wirings.specs.Nets.{wiring_of}
 use Rattle.apply.specs.Calls.{apply_call}
 use Rattle.apply.proofs.apply.Goals as goal

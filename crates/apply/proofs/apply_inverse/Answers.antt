@@ -1,6 +1,5 @@
 -- The paper's case.
 -- Assumes nothing.
-use borrow.Author.Rules.{rules}
 use Rattle.wirings.specs.Nets.{wiring_of}
 use Rattle.apply.specs.Calls.{inverse_call}
 use Rattle.apply.proofs.apply_inverse.Goals as goal

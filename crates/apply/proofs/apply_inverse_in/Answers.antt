@@ -1,6 +1,5 @@
 -- Assumes nothing.
 use Rattle.apply.proofs.Whole.{lent, inverse_refused, inverse_settles}
-use borrow.Author.Rules.{rules}
 use Rattle.apply.proofs.apply_inverse_in.Goals as goal
 
 pub returns-then-asked-ne0 : goal.returns-then-asked-ne0

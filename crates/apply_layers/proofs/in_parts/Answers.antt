@@ -2,14 +2,14 @@
 -- Assumes nothing.
 use native.Mathlib.Omega.{arith}
 use mathlib.Core.Path.{◌≡◌, refl, ◌∙◌}
-use Prim.Native.Nat.{◌+◌, ◌*◌, ◌-◌, ◌≤◌, ◌<◌}
-use lib.ListN.{length, get_or}
+use Prim.Native.Nat.{◌+◌, ◌*◌, ◌<◌}
+use lib.ListN.{get_or}
 use Rattle.bits.specs.Bits.{Bits}
 use Rattle.network.specs.Log.{entry_words}
 use Rattle.entry_log.proofs.Written.{packed-written}
-use Rattle.apply_layers.proofs.Blocks.{Within, within, few_fit, both_parts}
-use Rattle.apply_layers.proofs.Packing.{at_switch, switch-first, switch_next, switch_small}
-use Rattle.apply_layers.proofs.Runs.{First, first_none, first_more}
+use Rattle.apply_layers.proofs.Blocks.{within, few_fit, both_parts}
+use Rattle.apply_layers.proofs.Packing.{switch-first, switch_next, switch_small}
+use Rattle.apply_layers.proofs.Runs.{first_none, first_more}
 use Rattle.apply_layers.proofs.in_parts.Goals as goal
 
 pub overflow_mul-stride : goal.overflow_mul-stride

@@ -1,15 +1,10 @@
 -- The loop over a layer's switches, first to last. Its invariant: the first i have acted and are logged.
 -- Assumes nothing.
-use native.Mathlib.Omega.{arith}
-use mathlib.Core.Path.{◌≡◌, refl, ◌∙◌}
-use Prim.Native.Nat.{◌+◌, ◌*◌, ◌-◌, ◌≤◌, ◌<◌}
-use lib.ListN.{length, get_or}
-use Rattle.bits.specs.Bits.{Bits}
-use Rattle.network.specs.Log.{entry_words}
-use Rattle.entry_log.proofs.Written.{packed-written}
-use Rattle.apply_layers.proofs.Blocks.{Within, within, few_fit, both_parts}
-use Rattle.apply_layers.proofs.Packing.{at_switch, switch-first, switch_next, switch_small}
-use Rattle.apply_layers.proofs.Runs.{First, first_none, first_more}
+use mathlib.Core.Path.{◌≡◌}
+use Prim.Native.Nat.{◌-◌, ◌≤◌}
+use lib.ListN.{length}
+use Rattle.apply_layers.proofs.Packing.{at_switch}
+use Rattle.apply_layers.proofs.Runs.{First}
 use Rattle.apply_layers.proofs.in_parts.Given as goal
 
 abbrev pub invariant-loop-i : goal.invariant-loop-i

@@ -2,14 +2,14 @@
 -- Assumes nothing.
 use native.Mathlib.Omega.{arith}
 use mathlib.Core.Path.{◌≡◌, refl, ◌∙◌}
-use Prim.Native.Nat.{suc, ◌+◌, ◌*◌, ◌-◌, ◌≤◌, ◌<◌}
+use Prim.Native.Nat.{suc, ◌+◌, ◌*◌, ◌-◌, ◌<◌}
 use lib.ListN.{length, get_or}
 use Rattle.bits.specs.Bits.{Bits}
 use Rattle.network.specs.Log.{entry_words}
 use Rattle.entry_log.proofs.Written.{packed-written}
-use Rattle.apply_layers.proofs.Blocks.{Within, within, past_near, few_fit, both_parts}
-use Rattle.apply_layers.proofs.Packing.{at_switch, switch-above, switch-before}
-use Rattle.apply_layers.proofs.Runs.{Leads, leads_more, leads_none}
+use Rattle.apply_layers.proofs.Blocks.{within, past_near, few_fit, both_parts}
+use Rattle.apply_layers.proofs.Packing.{switch-above, switch-before}
+use Rattle.apply_layers.proofs.Runs.{leads_more, leads_none}
 use Rattle.apply_layers.proofs.in_parts_back.Goals as goal
 
 pub overflow_mul-stride : goal.overflow_mul-stride

@@ -1,15 +1,10 @@
 -- The loop over a layer's switches, last to first. Its invariant: whoever runs what is left has run the whole layer.
 -- Assumes nothing.
-use native.Mathlib.Omega.{arith}
-use mathlib.Core.Path.{◌≡◌, refl, ◌∙◌}
-use Prim.Native.Nat.{suc, ◌+◌, ◌*◌, ◌-◌, ◌≤◌, ◌<◌}
-use lib.ListN.{length, get_or}
-use Rattle.bits.specs.Bits.{Bits}
-use Rattle.network.specs.Log.{entry_words}
-use Rattle.entry_log.proofs.Written.{packed-written}
-use Rattle.apply_layers.proofs.Blocks.{Within, within, past_near, few_fit, both_parts}
-use Rattle.apply_layers.proofs.Packing.{at_switch, switch-above, switch-before}
-use Rattle.apply_layers.proofs.Runs.{Leads, leads_more, leads_none}
+use mathlib.Core.Path.{◌≡◌}
+use Prim.Native.Nat.{◌+◌, ◌≤◌}
+use lib.ListN.{length}
+use Rattle.apply_layers.proofs.Packing.{at_switch}
+use Rattle.apply_layers.proofs.Runs.{Leads}
 use Rattle.apply_layers.proofs.in_parts_back.Given as goal
 
 abbrev pub invariant-loop-i : goal.invariant-loop-i

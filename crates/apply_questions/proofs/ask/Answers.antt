@@ -2,9 +2,8 @@
 -- Assumes nothing.
 use native.Mathlib.Omega.{arith}
 use native.Mathlib.Nat.{mul-le-mul}
-use mathlib.Core.Path.{◌≡◌, refl, sym, ap, ◌∙◌}
-use Prim.Native.Nat.{◌*◌, ◌≤◌, ◌<◌}
-use lib.ListN.{length}
+use mathlib.Core.Path.{◌≡◌, sym, ap, ◌∙◌}
+use Prim.Native.Nat.{◌*◌, ◌≤◌}
 use Rattle.counts.specs.Counts.{W}
 use Rattle.answers.specs.Answers.{refusal}
 use Rattle.answers.proofs.Questions.{yes_each}
@@ -12,7 +11,6 @@ use Rattle.questions.proofs.Lists.{first_no_lem}
 use Rattle.questions.proofs.Asked.{few_yes, few_no, width_yes, narrow_no, wide_no, fill_yes, fill_no, count_yes, count_no, log_yes, log_no, bits_yes, bits_no}
 use Rattle.apply_questions.specs.Questions.{apply_questions}
 use Rattle.apply_questions.proofs.Asked.{told}
-use borrow.Author.Rules.{rules}
 use Rattle.apply_questions.proofs.ask.Goals as goal
 
 pub returns-then-n-gt-MOST_PLACES : goal.returns-then-n-gt-MOST_PLACES

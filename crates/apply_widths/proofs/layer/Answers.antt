@@ -1,7 +1,6 @@
 -- A step of 1 is told apart.
 -- Assumes nothing.
 use mathlib.Core.Path.{◌≡◌}
-use borrow.Author.Rules.{rules}
 use Rattle.apply_widths.proofs.layer.Goals as goal
 
 pub near-requires : goal.near-requires

@@ -3,13 +3,10 @@ use lib.Dec.{ltb, eqb}
 use lib.ListN.{get_or}
 use Rattle.answers.proofs.Questions.{bad_within}
 use Rattle.answers.proofs.Sweeps.{sweep_counts, sweep_fits}
-use mathlib.Core.Path.{◌≡◌, sym, ◌∙◌, ap}
-use Prim.Native.Nat.{ℕ, ◌≤◌, ◌-◌}
-use lib.ListN.{length}
+use mathlib.Core.Path.{◌∙◌, ap}
 use native.Mathlib.Omega.{arith}
-use borrow.Author.Rules.{rules}
 use Rattle.answers.specs.Questions.{first_bad, first_bad_from}
-use Rattle.bits.specs.Bits.{is_bit, unequal}
+use Rattle.bits.specs.Bits.{is_bit}
 use Rattle.bits.proofs.locate_bad.Goals as goal
 
 -- src/lib.rt:29:5

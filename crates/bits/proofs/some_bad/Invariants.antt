@@ -1,11 +1,7 @@
-use mathlib.Core.Path.{refl}
-use Rattle.bits.proofs.Bytes.{flag_more}
-use mathlib.Core.Path.{◌≡◌, sym, ◌∙◌, ap}
-use Prim.Native.Nat.{ℕ, ◌≤◌, ◌-◌}
+use mathlib.Core.Path.{◌≡◌}
+use Prim.Native.Nat.{◌≤◌, ◌-◌}
 use lib.ListN.{length}
-use native.Mathlib.Omega.{arith}
-use borrow.Author.Rules.{rules}
-use Rattle.answers.specs.Questions.{first_bad, first_bad_from}
+use Rattle.answers.specs.Questions.{first_bad}
 use Rattle.bits.specs.Bits.{is_bit, unequal}
 use Rattle.bits.proofs.some_bad.Given as goal
 

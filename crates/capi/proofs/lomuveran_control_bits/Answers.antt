@@ -1,6 +1,5 @@
 -- Assumes nothing.
 use Rattle.capi_values.proofs.Crossing.{log_crosses}
-use borrow.Author.Rules.{rules}
 use Rattle.capi.proofs.lomuveran_control_bits.Goals as goal
 
 pub returns : goal.returns

@@ -1,6 +1,5 @@
 -- Assumes nothing.
 use mathlib.Core.Path.{◌∙◌}
-use borrow.Author.Rules.{rules}
 use Rattle.capi.proofs.lomuveran_gauge_report.Goals as goal
 
 pub returns : goal.returns

@@ -1,7 +1,6 @@
 -- Assumes nothing.
 use Rattle.wirings.specs.Nets.{wiring_of}
 use Rattle.capi_values.proofs.Crossing.{log_crosses}
-use borrow.Author.Rules.{rules}
 use Rattle.capi.proofs.lomuveran_neighbour_apply.Goals as goal
 
 pub returns : goal.returns

@@ -4,7 +4,6 @@ use Rattle.records.specs.declared.Permutation.{Permutation}
 use Rattle.records.specs.Records.{combine_call}
 use Rattle.capi_values.specs.Crossing.{record_in}
 use Rattle.capi_values.proofs.Crossing.{reply-crosses}
-use borrow.Author.Rules.{rules}
 use Rattle.capi.proofs.lomuveran_permutation_combine.Goals as goal
 
 pub returns : goal.returns

@@ -3,7 +3,6 @@ use mathlib.Core.Path.{ap, ◌∙◌}
 use Rattle.records.specs.declared.Permutation.{Permutation}
 use Rattle.records.specs.Records.{exchange_call}
 use Rattle.capi_values.proofs.Crossing.{reply-crosses}
-use borrow.Author.Rules.{rules}
 use Rattle.capi.proofs.lomuveran_permutation_exchange.Goals as goal
 
 pub returns : goal.returns

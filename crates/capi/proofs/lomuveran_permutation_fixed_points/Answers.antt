@@ -2,7 +2,6 @@
 use mathlib.Core.Path.{◌∙◌}
 use Rattle.capi_values.specs.Crossing.{record_in}
 use Rattle.records.specs.Records.{replied}
-use borrow.Author.Rules.{rules}
 use Rattle.capi.proofs.lomuveran_permutation_fixed_points.Goals as goal
 
 pub returns : goal.returns

@@ -1,7 +1,6 @@
 -- Assumes nothing.
 use mathlib.Core.Path.{ap, ◌∙◌}
 use Rattle.capi_values.specs.Crossing.{told}
-use borrow.Author.Rules.{rules}
 use Rattle.capi.proofs.lomuveran_permutation_from_list.Goals as goal
 
 pub returns : goal.returns

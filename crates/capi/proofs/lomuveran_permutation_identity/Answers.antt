@@ -1,6 +1,5 @@
 -- Assumes nothing.
 use Rattle.capi_values.proofs.Crossing.{reply-crosses}
-use borrow.Author.Rules.{rules}
 use Rattle.capi.proofs.lomuveran_permutation_identity.Goals as goal
 
 pub returns : goal.returns

@@ -2,7 +2,6 @@
 use mathlib.Core.Path.{ap, ◌∙◌}
 use Rattle.records.specs.Records.{inverse_call}
 use Rattle.capi_values.proofs.Crossing.{reply-crosses}
-use borrow.Author.Rules.{rules}
 use Rattle.capi.proofs.lomuveran_permutation_inverse.Goals as goal
 
 pub returns : goal.returns

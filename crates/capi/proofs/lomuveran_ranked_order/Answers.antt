@@ -1,7 +1,6 @@
 -- Assumes nothing.
 use Rattle.listed_order.specs.Calls.{ranked}
 use Rattle.capi_values.proofs.Crossing.{answer_crosses}
-use borrow.Author.Rules.{rules}
 use Rattle.capi.proofs.lomuveran_ranked_order.Goals as goal
 
 pub returns : goal.returns

@@ -1,6 +1,5 @@
 -- Assumes nothing.
 use Rattle.capi_values.proofs.Crossing.{crosses}
-use borrow.Author.Rules.{rules}
 use Rattle.capi.proofs.lomuveran_read_sheet.Goals as goal
 
 pub returns : goal.returns

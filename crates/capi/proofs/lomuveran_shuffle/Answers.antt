@@ -1,6 +1,5 @@
 -- Assumes nothing.
 use Rattle.capi_values.proofs.Crossing.{drawn-crosses}
-use borrow.Author.Rules.{rules}
 use Rattle.capi.proofs.lomuveran_shuffle.Goals as goal
 
 pub returns : goal.returns

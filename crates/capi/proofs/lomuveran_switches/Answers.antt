@@ -2,7 +2,6 @@
 use mathlib.Core.Path.{◌∙◌}
 use Rattle.counts.specs.Counts.{W}
 use Rattle.capi_values.proofs.Crossing.{count_refused, count-given}
-use borrow.Author.Rules.{rules}
 use Rattle.capi.proofs.lomuveran_switches.Goals as goal
 
 pub returns-then-n-gt-MOST_PLACES : goal.returns-then-n-gt-MOST_PLACES

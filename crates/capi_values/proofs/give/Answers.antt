@@ -1,7 +1,6 @@
 -- `capi_values::give` meets its contract.
 -- Assumes nothing.
 use Rattle.capi_values.proofs.Crossing.{lent_refused, lent-accepted}
-use borrow.Author.Rules.{rules}
 use Rattle.capi_values.proofs.give.Goals as goal
 
 pub returns-then-answer-ne0 : goal.returns-then-answer-ne0

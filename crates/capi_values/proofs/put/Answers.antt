@@ -1,10 +1,7 @@
 -- Assumes nothing.
-use borrow.Author.Rules.{rules}
 use mathlib.Core.Path.{refl}
 use native.Mathlib.Omega.{arith}
-use Prim.Native.Nat.{◌-◌}
-use lib.ListN.{get_or}
-use Rattle.capi_values.proofs.Crossing.{Filling, filling_starts, filling_more, filled}
+use Rattle.capi_values.proofs.Crossing.{filling_starts, filling_more, filled}
 use Rattle.capi_values.proofs.put.Goals as goal
 
 pub loop-i-init : goal.loop-i-init

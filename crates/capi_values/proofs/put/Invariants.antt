@@ -1,10 +1,7 @@
 -- Assumes nothing.
-use borrow.Author.Rules.{rules}
-use mathlib.Core.Path.{refl}
-use native.Mathlib.Omega.{arith}
 use Prim.Native.Nat.{◌-◌}
 use lib.ListN.{get_or}
-use Rattle.capi_values.proofs.Crossing.{Filling, filling_starts, filling_more, filled}
+use Rattle.capi_values.proofs.Crossing.{Filling}
 use Rattle.capi_values.proofs.put.Given as goal
 
 abbrev pub invariant-loop-i : goal.invariant-loop-i

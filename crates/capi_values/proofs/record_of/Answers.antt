@@ -1,9 +1,7 @@
 -- Assumes nothing.
 use borrow.Author.Rules.{rules}
 use native.Mathlib.Omega.{arith}
-use Prim.Native.Nat.{◌-◌}
-use lib.ListN.{get_or}
-use Rattle.capi_values.proofs.Crossing.{Filling, filling_starts, filling_more, record_filled}
+use Rattle.capi_values.proofs.Crossing.{filling_starts, filling_more, record_filled}
 use Rattle.capi_values.proofs.record_of.Goals as goal
 
 pub loop-i-init : goal.loop-i-init

@@ -2,7 +2,6 @@
 -- Assumes nothing.
 use mathlib.Core.Path.{ap}
 use Rattle.answers.specs.declared.Answer.{Answer}
-use borrow.Author.Rules.{rules}
 use Rattle.capi_values.proofs.tell_drawn.Goals as goal
 
 pub returns : goal.returns

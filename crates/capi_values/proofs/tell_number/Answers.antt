@@ -1,7 +1,6 @@
 -- Assumes nothing.
 use Rattle.capi_values.proofs.Crossing.{number_refused, number-given}
 use mathlib.Core.Path.{◌∙◌}
-use borrow.Author.Rules.{rules}
 use Rattle.capi_values.proofs.tell_number.Goals as goal
 
 pub returns-in_default : goal.returns-in_default

@@ -1,7 +1,6 @@
 -- Assumes nothing.
 use Rattle.gauges.proofs.Words.{read_back}
 use Rattle.capi_values.proofs.Crossing.{report_given}
-use borrow.Author.Rules.{rules}
 use Rattle.capi_values.proofs.tell_report.Goals as goal
 
 pub returns : goal.returns

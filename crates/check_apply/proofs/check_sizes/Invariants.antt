@@ -1,9 +1,6 @@
 -- `check_apply::check_sizes` meets its contract.
 -- Assumes nothing.
-use borrow.Author.Rules.{rules}
-use mathlib.Core.Path.{◌≡◌}
 use Prim.Native.Nat.{◌+◌, ◌-◌, ◌≤◌}
-use lib.ListN.{length}
 use Rattle.check_apply.proofs.check_sizes.Given as goal
 
 abbrev pub invariant-loop-n : goal.invariant-loop-n

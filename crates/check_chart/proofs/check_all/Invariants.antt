@@ -1,6 +1,6 @@
 -- `check_chart::check_all` meets its contract.
 -- Assumes nothing.
-use Rattle.std.proofs.Common.{◌-◌, ◌≤◌, rules}
+use Rattle.std.proofs.Common.{◌-◌, ◌≤◌}
 use Rattle.check_chart.proofs.check_all.Given as goal
 
 abbrev pub invariant-loop-c : goal.invariant-loop-c

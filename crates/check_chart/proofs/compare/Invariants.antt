@@ -1,6 +1,6 @@
 -- `check_chart::compare` meets its contract.
 -- Assumes nothing.
-use Rattle.std.proofs.Common.{◌-◌, ◌≤◌, rules}
+use Rattle.std.proofs.Common.{◌-◌, ◌≤◌}
 use Rattle.check_chart.proofs.compare.Given as goal
 
 abbrev pub invariant-loop-i : goal.invariant-loop-i

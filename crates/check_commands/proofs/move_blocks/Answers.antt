@@ -1,6 +1,5 @@
 -- `check_commands::move_blocks` meets its contract.
 -- Assumes nothing.
-use borrow.Author.Rules.{rules}
 use Rattle.check_commands.proofs.move_blocks.Goals as goal
 
 pub shape_of-scattered : goal.shape_of-scattered

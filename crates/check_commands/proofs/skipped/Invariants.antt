@@ -1,7 +1,6 @@
 -- `check_commands::skipped` meets its contract.
 -- Assumes nothing.
 use Prim.Native.Nat.{◌-◌, ◌≤◌}
-use borrow.Author.Rules.{rules}
 use Rattle.check_commands.proofs.skipped.Given as goal
 
 abbrev pub invariant-loop-i : goal.invariant-loop-i

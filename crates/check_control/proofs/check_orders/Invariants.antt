@@ -1,6 +1,6 @@
 -- `check_control::check_orders` meets its contract.
 -- Assumes nothing.
-use Rattle.std.proofs.Common.{◌-◌, ◌≤◌, rules}
+use Rattle.std.proofs.Common.{◌-◌, ◌≤◌}
 use Rattle.check_control.proofs.check_orders.Given as goal
 
 abbrev pub invariant-loop-c : goal.invariant-loop-c

@@ -1,6 +1,6 @@
 -- `check_control::check_settings` meets its contract.
 -- Assumes nothing.
-use Rattle.std.proofs.Common.{◌-◌, ◌≤◌, rules}
+use Rattle.std.proofs.Common.{◌-◌, ◌≤◌}
 use Rattle.check_control.proofs.check_settings.Given as goal
 
 abbrev pub invariant-loop-c : goal.invariant-loop-c

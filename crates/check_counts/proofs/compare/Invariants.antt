@@ -1,6 +1,6 @@
 -- `check_counts::compare` is safe and ends: at each n the equal ones are no more than those compared.
 -- Assumes nothing.
-use Rattle.std.proofs.Common.{◌-◌, ◌≤◌, rules}
+use Rattle.std.proofs.Common.{◌-◌, ◌≤◌}
 use Rattle.check_counts.proofs.compare.Given as goal
 
 abbrev pub invariant-loop-n : goal.invariant-loop-n

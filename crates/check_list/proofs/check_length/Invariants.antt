@@ -1,6 +1,5 @@
 -- `check_list::check_length` meets its contract.
 -- Assumes nothing.
-use borrow.Author.Rules.{rules}
 use Prim.Native.Nat.{◌-◌, ◌≤◌}
 use Rattle.check_list.proofs.check_length.Given as goal
 

@@ -1,6 +1,6 @@
 -- `check_neighbour::check_size` meets its contract.
 -- Assumes nothing.
-use Rattle.std.proofs.Common.{◌-◌, ◌≤◌, rules}
+use Rattle.std.proofs.Common.{◌-◌, ◌≤◌}
 use Rattle.check_neighbour.proofs.check_size.Given as goal
 
 abbrev pub invariant-loop-c : goal.invariant-loop-c

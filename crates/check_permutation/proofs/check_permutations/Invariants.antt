@@ -1,6 +1,6 @@
 -- `check_permutation::check_permutations` meets its contract.
 -- Assumes nothing.
-use Rattle.std.proofs.Common.{◌-◌, ◌≤◌, rules}
+use Rattle.std.proofs.Common.{◌-◌, ◌≤◌}
 use Rattle.check_permutation.proofs.check_permutations.Given as goal
 
 abbrev pub invariant-loop-c : goal.invariant-loop-c

@@ -1,6 +1,6 @@
 -- `check_permutation::check_row` meets its contract.
 -- Assumes nothing.
-use Rattle.std.proofs.Common.{◌+◌, ◌-◌, ◌≤◌, rules}
+use Rattle.std.proofs.Common.{◌+◌, ◌-◌, ◌≤◌}
 use Rattle.check_permutation.proofs.check_row.Given as goal
 
 abbrev pub invariant-loop-j : goal.invariant-loop-j

@@ -1,6 +1,6 @@
 -- `check_replay::listed` meets its contract.
 -- Assumes nothing.
-use Rattle.std.proofs.Common.{◌-◌, ◌≤◌, rules}
+use Rattle.std.proofs.Common.{◌-◌, ◌≤◌}
 use Rattle.check_replay.proofs.listed.Given as goal
 
 abbrev pub invariant-loop-r : goal.invariant-loop-r

@@ -1,6 +1,6 @@
 -- `check_replay::sizes` meets its contract.
 -- Assumes nothing.
-use Rattle.std.proofs.Common.{◌-◌, ◌≤◌, rules}
+use Rattle.std.proofs.Common.{◌-◌, ◌≤◌}
 use Rattle.check_replay.proofs.sizes.Given as goal
 
 abbrev pub invariant-loop-n : goal.invariant-loop-n

@@ -2,7 +2,6 @@
 -- Assumes nothing.
 use lib.ListN.{length-set}
 use native.Mathlib.Omega.{arith}
-use borrow.Author.Rules.{rules}
 use Rattle.check_settings.proofs.put.Goals as goal
 
 pub bounds-input-at-3 : goal.bounds-input-at-3

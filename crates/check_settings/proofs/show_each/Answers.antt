@@ -1,8 +1,5 @@
 -- `check_settings::show_each` meets its contract.
 -- Assumes nothing.
-use Prim.Native.Nat.{◌-◌}
-use lib.ListN.{length}
-use borrow.Author.Rules.{rules}
 use Rattle.check_settings.proofs.show_each.Goals as goal
 
 pub loop-at-init : goal.loop-at-init

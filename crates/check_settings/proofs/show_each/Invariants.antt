@@ -2,7 +2,6 @@
 -- Assumes nothing.
 use Prim.Native.Nat.{◌-◌}
 use lib.ListN.{length}
-use borrow.Author.Rules.{rules}
 use Rattle.check_settings.proofs.show_each.Given as goal
 
 abbrev pub invariant-loop-at : goal.invariant-loop-at

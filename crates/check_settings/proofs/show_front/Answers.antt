@@ -2,7 +2,6 @@
 -- Assumes nothing.
 use mathlib.Core.Path.{sym}
 use lib.Seq.{length-take-le}
-use borrow.Author.Rules.{rules}
 use Rattle.check_settings.proofs.show_front.Goals as goal
 
 pub slice_bounds-show-end : goal.slice_bounds-show-end

@@ -1,6 +1,5 @@
 -- `check_sheets::pairs` meets its contract.
 -- Assumes nothing.
-use borrow.Author.Rules.{rules}
 use Prim.Native.Nat.{◌-◌, ◌≤◌}
 use Rattle.check_sheets.proofs.pairs.Given as goal
 

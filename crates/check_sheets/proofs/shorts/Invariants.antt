@@ -1,6 +1,5 @@
 -- `check_sheets::shorts` meets its contract.
 -- Assumes nothing.
-use borrow.Author.Rules.{rules}
 use Prim.Native.Nat.{◌-◌, ◌≤◌}
 use Rattle.check_sheets.proofs.shorts.Given as goal
 

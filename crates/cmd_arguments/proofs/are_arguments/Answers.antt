@@ -1,7 +1,6 @@
 -- `cmd_arguments::are_arguments` meets its contract.
 -- Assumes nothing.
 use Rattle.cmd_arguments.proofs.Digits.{all_none, all_some}
-use borrow.Author.Rules.{rules}
 use Rattle.cmd_arguments.proofs.are_arguments.Goals as goal
 
 pub returns-then-all-eq0 : goal.returns-then-all-eq0

@@ -1,10 +1,7 @@
 -- `cmd_arguments::decimal` meets its contract.
 -- Assumes nothing.
-use Prim.Native.Nat.{◌-◌}
 use native.Mathlib.Omega.{arith}
-use lib.ListN.{length}
-use Rattle.cmd_arguments.proofs.Digits.{Reading, none, starts, ends, below, above, more}
-use borrow.Author.Rules.{rules}
+use Rattle.cmd_arguments.proofs.Digits.{none, starts, ends, below, above, more}
 use Rattle.cmd_arguments.proofs.decimal.Goals as goal
 
 pub returns-then-text-eq0 : goal.returns-then-text-eq0

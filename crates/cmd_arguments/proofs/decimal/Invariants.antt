@@ -1,10 +1,8 @@
 -- `cmd_arguments::decimal` meets its contract.
 -- Assumes nothing.
 use Prim.Native.Nat.{◌-◌}
-use native.Mathlib.Omega.{arith}
 use lib.ListN.{length}
-use Rattle.cmd_arguments.proofs.Digits.{Reading, none, starts, ends, below, above, more}
-use borrow.Author.Rules.{rules}
+use Rattle.cmd_arguments.proofs.Digits.{Reading}
 use Rattle.cmd_arguments.proofs.decimal.Given as goal
 
 abbrev pub invariant-loop-i : goal.invariant-loop-i

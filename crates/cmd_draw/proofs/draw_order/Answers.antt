@@ -6,7 +6,6 @@ use lib.ListN.{replicate}
 use lib.Seq.{length-take-le}
 use Rattle.cmd_draw.specs.Draw.{draw_from, draw_call}
 use Rattle.cmd_draw.proofs.Drawn.{gathered}
-use borrow.Author.Rules.{rules}
 use Rattle.cmd_draw.proofs.draw_order.Goals as goal
 
 pub slice_bounds-draw_words-end : goal.slice_bounds-draw_words-end

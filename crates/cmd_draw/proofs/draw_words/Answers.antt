@@ -5,7 +5,6 @@ use native.Mathlib.Omega.{arith}
 use lib.ListN.{length-take}
 use lib.Seq.{length-take-le}
 use Rattle.cmd_draw.proofs.Drawn.{draw_refused, few, entries_few, draw_done}
-use borrow.Author.Rules.{rules}
 use Rattle.cmd_draw.proofs.draw_words.Goals as goal
 
 pub returns-then-answer-ne0 : goal.returns-then-answer-ne0

@@ -1,11 +1,9 @@
 -- `cmd_draw::gather` meets its contract.
 -- Assumes nothing.
-use Prim.Native.Nat.{◌-◌}
 use native.Mathlib.Omega.{arith}
-use borrow.Author.Rules.{rules}
 use Rattle.permutation.specs.Permutations.{tabulate}
 use Rattle.permutation.proofs.Tables.{length-tabulate, tabulate-at}
-use Rattle.answers.proofs.Putting.{Over, over_starts, each_more, each-ends}
+use Rattle.answers.proofs.Putting.{over_starts, each_more, each-ends}
 use Rattle.cmd_draw.specs.Draw.{word_at}
 use Rattle.cmd_draw.proofs.gather.Goals as goal
 

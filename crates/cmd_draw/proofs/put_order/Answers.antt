@@ -2,7 +2,6 @@
 -- Assumes nothing.
 use native.Mathlib.Omega.{arith}
 use Rattle.cmd_draw.proofs.Entering.{count_few, order_put}
-use borrow.Author.Rules.{rules}
 use Rattle.cmd_draw.proofs.put_order.Goals as goal
 
 pub put_row-requires : goal.put_row-requires

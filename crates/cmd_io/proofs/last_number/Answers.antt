@@ -3,7 +3,6 @@
 use mathlib.Core.Path.{refl}
 use mathlib.Core.List.{[]}
 use Rattle.cmd_arguments.specs.Decimal.{decimal_in}
-use borrow.Author.Rules.{rules}
 use Rattle.cmd_io.proofs.last_number.Goals as goal
 
 pub returns-then-misused : goal.returns-then-misused

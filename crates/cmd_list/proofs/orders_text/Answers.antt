@@ -9,7 +9,6 @@ use Rattle.numbers.proofs.Numbers.{reads, refused}
 use Rattle.cmd_text.specs.Text.{refusal_line}
 use Rattle.cmd_text.proofs.Lines.{refusal_fits}
 use Rattle.cmd_list.proofs.Asking.{prints, no_number, too_long, surplus, all_orders}
-use borrow.Author.Rules.{rules}
 use Rattle.cmd_list.proofs.orders_text.Goals as goal
 
 pub put_refusal-requires : goal.put_refusal-requires

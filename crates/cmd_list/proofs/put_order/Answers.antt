@@ -4,7 +4,6 @@ use mathlib.Core.Path.{sym}
 use native.Mathlib.Omega.{arith}
 use lib.Seq.{length-take-le}
 use Rattle.cmd_list.proofs.Order.{six_switches, zeros, bits_there, line_room, line-done}
-use borrow.Author.Rules.{rules}
 use Rattle.cmd_list.proofs.put_order.Goals as goal
 
 pub slice_bounds-bits-end : goal.slice_bounds-bits-end

@@ -1,9 +1,7 @@
 -- `cmd_list::put_orders` meets its contract.
 -- Assumes nothing.
 use native.Mathlib.Omega.{arith}
-use Prim.Native.Nat.{◌-◌}
-use Rattle.cmd_list.proofs.Printing.{Printing, printing_starts, order_room_lem, printing_more, printing_ends}
-use borrow.Author.Rules.{rules}
+use Rattle.cmd_list.proofs.Printing.{printing_starts, order_room_lem, printing_more, printing_ends}
 use Rattle.cmd_list.proofs.put_orders.Goals as goal
 
 pub loop-r-init : goal.loop-r-init

@@ -4,7 +4,6 @@ use Rattle.cmd_text.specs.Text.{bits_text, line}
 use Rattle.cmd_text.proofs.Lines.{room_first}
 use Rattle.cmd_list_line.specs.Line.{entries_text}
 use Rattle.cmd_list_line.proofs.Putting.{space_room, bits_room, newline_room, line_put}
-use borrow.Author.Rules.{rules}
 use Rattle.cmd_list_line.proofs.put_line.Goals as goal
 
 pub put_entries-a-requires : goal.put_entries-a-requires

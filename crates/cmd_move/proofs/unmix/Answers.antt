@@ -8,7 +8,6 @@ use Rattle.sheets.proofs.Setting.{setting_room}
 use Rattle.apply.specs.Calls.{inverse_call}
 use Rattle.cmd_move.specs.Calls.{unmix_call}
 use Rattle.cmd_move.proofs.Moving.{move_refused, move_settles, unlogged}
-use borrow.Author.Rules.{rules}
 use Rattle.cmd_move.proofs.unmix.Goals as goal
 
 pub returns-in_default : goal.returns-in_default

@@ -2,7 +2,6 @@
 -- Assumes nothing.
 use mathlib.Core.Path.{◌∙◌}
 use Rattle.cmd_picture.proofs.Marks.{mark_lower, mark_upper, mark-before, mark-behind, mark_between}
-use borrow.Author.Rules.{rules}
 use Rattle.cmd_picture.proofs.mark_at.Goals as goal
 
 pub returns-then-place-lower : goal.returns-then-place-lower

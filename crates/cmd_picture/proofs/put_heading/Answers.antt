@@ -6,7 +6,6 @@ use lib.ListN.{length}
 use lib.Seq.{length-take-le}
 use Rattle.answers.proofs.Putting.{put_front, put_within, put_then}
 use Rattle.cmd_picture.proofs.Switches.{bits_few, bits_each}
-use borrow.Author.Rules.{rules}
 use Rattle.cmd_picture.proofs.put_heading.Goals as goal
 
 pub put_bits-w-requires : goal.put_bits-w-requires

@@ -7,7 +7,6 @@ use lib.ListN.{take, replicate}
 use lib.Seq.{length-take-le}
 use Rattle.network.specs.Log.{entry_words}
 use Rattle.cmd_picture.proofs.Logged.{picture_in, heading_room, rows_room, picture_put, log_room}
-use borrow.Author.Rules.{rules}
 use Rattle.cmd_picture.proofs.put_picture.Goals as goal
 
 pub slice_bounds-apply-end : goal.slice_bounds-apply-end

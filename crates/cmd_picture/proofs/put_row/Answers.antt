@@ -8,7 +8,6 @@ use Rattle.answers.proofs.Putting.{put_front, put_within, put_then}
 use Rattle.permutation.proofs.Tables.{length-tabulate}
 use Rattle.cmd_picture.specs.Inner.{mark_in}
 use Rattle.cmd_picture.proofs.Switches.{small}
-use borrow.Author.Rules.{rules}
 use Rattle.cmd_picture.proofs.put_row.Goals as goal
 
 pub put_columns-w-requires : goal.put_columns-w-requires

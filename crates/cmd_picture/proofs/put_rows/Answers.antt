@@ -1,8 +1,7 @@
 -- `cmd_picture::put_rows` meets its contract.
 -- Assumes nothing.
-use Prim.Native.Nat.{◌-◌}
 use native.Mathlib.Omega.{arith}
-use Rattle.cmd_picture.proofs.Marks.{Rowing, rowing_starts, row_room, rowing_more, rowing_ends}
+use Rattle.cmd_picture.proofs.Marks.{rowing_starts, row_room, rowing_more, rowing_ends}
 use borrow.Author.Rules.{rules}
 use Rattle.cmd_picture.proofs.put_rows.Goals as goal
 

@@ -6,7 +6,6 @@ use lib.ListN.{length, length-append}
 use Rattle.answers.proofs.Putting.{put_none, put_then}
 use Rattle.cmd_text.specs.Text.{text}
 use Rattle.cmd_picture_line.proofs.Grouping.{group_none, group_some}
-use borrow.Author.Rules.{rules}
 use Rattle.cmd_picture_line.proofs.put_group.Goals as goal
 
 pub returns-then-columns-eq0 : goal.returns-then-columns-eq0

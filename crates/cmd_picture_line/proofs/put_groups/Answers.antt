@@ -8,7 +8,6 @@ use lib.ListN.{take, drop, length-append}
 use lib.Seq.{length-take-le}
 use Rattle.cmd_picture_line.specs.Line.{group}
 use Rattle.cmd_picture_line.proofs.Grouping.{four_second, four_third, four_fourth, put_four, tail_is}
-use borrow.Author.Rules.{rules}
 use Rattle.cmd_picture_line.proofs.put_groups.Goals as goal
 
 pub slice_bounds-put_group-end : goal.slice_bounds-put_group-end

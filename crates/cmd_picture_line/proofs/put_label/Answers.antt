@@ -1,6 +1,5 @@
 -- `cmd_picture_line::put_label` meets its contract.
 -- Assumes nothing.
-use borrow.Author.Rules.{rules}
 use Rattle.cmd_picture_line.proofs.put_label.Goals as goal
 
 pub returns : goal.returns

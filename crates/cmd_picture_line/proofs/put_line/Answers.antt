@@ -7,7 +7,6 @@ use Rattle.answers.proofs.Putting.{put_then}
 use Rattle.cmd_text.specs.Text.{text}
 use Rattle.cmd_picture_line.specs.Line.{grouped}
 use Rattle.cmd_picture_line.proofs.Grouping.{output_within, groups_are}
-use borrow.Author.Rules.{rules}
 use Rattle.cmd_picture_line.proofs.put_line.Goals as goal
 
 pub put_groups-a-requires : goal.put_groups-a-requires

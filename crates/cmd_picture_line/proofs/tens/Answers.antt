@@ -1,7 +1,6 @@
 -- `cmd_picture_line::tens` meets its contract.
 -- Assumes nothing.
 use Rattle.cmd_picture_line.proofs.Labels.{one-digit, two_digits}
-use borrow.Author.Rules.{rules}
 use Rattle.cmd_picture_line.proofs.tens.Goals as goal
 
 pub returns-then-place-lt10 : goal.returns-then-place-lt10

@@ -4,7 +4,6 @@ use mathlib.Core.Path.{sym, ap, ◌∙◌}
 use Rattle.numbers.specs.Reading.{meaning}
 use Rattle.numbers.proofs.Numbers.{reads}
 use Rattle.cmd_read_order.proofs.Asking.{count_stops, count_large, row_stop, surplus, order-done}
-use borrow.Author.Rules.{rules}
 use Rattle.cmd_read_order.proofs.read_order.Goals as goal
 
 pub returns-in_default : goal.returns-in_default

@@ -4,9 +4,7 @@ use mathlib.Core.Path.{sym, ap, ◌∙◌}
 use native.Mathlib.Omega.{arith}
 use lib.Seq.{length-take-le}
 use Rattle.answers.specs.Answers.{refusal}
-use Rattle.cmd_read_order.specs.Orders.{reported}
 use Rattle.cmd_read_order.proofs.Setting.{set_refused, set_accepted}
-use borrow.Author.Rules.{rules}
 use Rattle.cmd_read_order.proofs.set.Goals as goal
 
 pub returns-then-bad-order : goal.returns-then-bad-order

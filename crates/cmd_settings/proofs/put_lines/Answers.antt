@@ -5,7 +5,6 @@ use mathlib.Core.List.{◌++◌}
 use Rattle.cmd_text.specs.Text.{decimal, bits_text, line}
 use Rattle.cmd_settings.specs.Settings.{setting_lines}
 use Rattle.cmd_text.proofs.Lines.{room_first, room_second, room_third, put_three}
-use borrow.Author.Rules.{rules}
 use Rattle.cmd_settings.proofs.put_lines.Goals as goal
 
 pub put_number-a-requires : goal.put_number-a-requires

@@ -8,7 +8,6 @@ use Rattle.counts.proofs.Most.{entries_few}
 use Rattle.cmd_text.proofs.Lines.{refusal_fits}
 use Rattle.cmd_read_order.proofs.Outcomes.{report_outcome}
 use Rattle.cmd_settings.proofs.Printing.{lines_fit, prints, prints_refusal, places_few_lem, bits_there, entries_are, prints_lines}
-use borrow.Author.Rules.{rules}
 use Rattle.cmd_settings.proofs.settings_text.Goals as goal
 
 pub put_refusal-requires : goal.put_refusal-requires

@@ -2,7 +2,6 @@
 -- Assumes nothing.
 use native.Mathlib.Omega.{arith}
 use Rattle.cmd_show.proofs.Showing.{order-line}
-use borrow.Author.Rules.{rules}
 use Rattle.cmd_show.proofs.put_order.Goals as goal
 
 pub put_text-requires : goal.put_text-requires

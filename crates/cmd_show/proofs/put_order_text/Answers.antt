@@ -1,11 +1,9 @@
 -- `cmd_show::put_order_text` meets its contract.
 -- Assumes nothing.
 use mathlib.Core.Path.{refl}
-use Prim.Native.Nat.{◌-◌}
 use native.Mathlib.Omega.{arith}
-use lib.ListN.{length}
 use borrow.Author.Rules.{rules}
-use Rattle.cmd_show.proofs.Spacing.{Spacing, no_order, spacing_starts, spacing_more, spacing_ends}
+use Rattle.cmd_show.proofs.Spacing.{no_order, spacing_starts, spacing_more, spacing_ends}
 use Rattle.cmd_show.proofs.put_order_text.Goals as goal
 
 pub returns-then-order-eq0 : goal.returns-then-order-eq0

@@ -1,11 +1,8 @@
 -- `cmd_show::put_order_text` meets its contract.
 -- Assumes nothing.
-use mathlib.Core.Path.{refl}
 use Prim.Native.Nat.{◌-◌}
-use native.Mathlib.Omega.{arith}
 use lib.ListN.{length}
-use borrow.Author.Rules.{rules}
-use Rattle.cmd_show.proofs.Spacing.{Spacing, no_order, spacing_starts, spacing_more, spacing_ends}
+use Rattle.cmd_show.proofs.Spacing.{Spacing}
 use Rattle.cmd_show.proofs.put_order_text.Given as goal
 
 abbrev pub invariant-loop-j : goal.invariant-loop-j

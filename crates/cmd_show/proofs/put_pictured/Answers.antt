@@ -4,7 +4,6 @@ use native.Mathlib.Omega.{arith}
 use Rattle.answers.proofs.Putting.{put_none}
 use Rattle.cmd_picture.proofs.Logged.{picture-length}
 use Rattle.cmd_show.proofs.Spacing.{few_places, many_places, some_places}
-use borrow.Author.Rules.{rules}
 use Rattle.cmd_show.proofs.put_pictured.Goals as goal
 
 pub returns-then-n-lt2 : goal.returns-then-n-lt2

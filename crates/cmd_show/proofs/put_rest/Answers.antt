@@ -7,7 +7,6 @@ use lib.Seq.{length-take-le}
 use Rattle.network.proofs.Paper.{paper_lawful}
 use Rattle.setting_order.proofs.Front.{order_room_lem, order-front}
 use Rattle.cmd_show.proofs.Showing.{rest_put}
-use borrow.Author.Rules.{rules}
 use Rattle.cmd_show.proofs.put_rest.Goals as goal
 
 pub slice_bounds-order-end : goal.slice_bounds-order-end

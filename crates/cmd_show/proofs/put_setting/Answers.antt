@@ -2,7 +2,6 @@
 -- Assumes nothing.
 use native.Mathlib.Omega.{arith}
 use Rattle.cmd_show.proofs.Showing.{places-line, setting-line, setting_put}
-use borrow.Author.Rules.{rules}
 use Rattle.cmd_show.proofs.put_setting.Goals as goal
 
 pub put_number-a-requires : goal.put_number-a-requires

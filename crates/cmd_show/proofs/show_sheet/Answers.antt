@@ -5,7 +5,6 @@ use native.Mathlib.Omega.{arith}
 use lib.Seq.{length-take-le}
 use Rattle.sheets.proofs.Setting.{setting_few, setting_fits, setting_room, setting-count, setting_are_bits}
 use Rattle.cmd_show.proofs.Showing.{show_refused, show_done}
-use borrow.Author.Rules.{rules}
 use Rattle.cmd_show.proofs.show_sheet.Goals as goal
 
 pub returns-in_default : goal.returns-in_default

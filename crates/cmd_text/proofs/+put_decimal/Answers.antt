@@ -1,12 +1,10 @@
 -- `cmd_text::put_decimal` meets its contract.
 -- Assumes nothing.
-use borrow.Author.Rules.{rules}
 use native.Mathlib.Omega.{arith}
 use Rattle.cmd_text.proofs.Lines.{put_digit, put_last}
 use Rattle.cmd_text.proofs.Decimal.{decimal-one, longer}
 use mathlib.Core.Path.{ap}
 use lib.ListN.{length}
-use Prim.Native.Nat.{ℕ, ◌<◌}
 use Rattle.cmd_text.proofs.+put_decimal.Goals as goal
 
 pub bounds-out-at : goal.bounds-out-at

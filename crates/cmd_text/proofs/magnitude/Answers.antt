@@ -1,7 +1,6 @@
 -- `cmd_text::magnitude` meets its contract.
 -- Assumes nothing.
 use native.Mathlib.Omega.{arith}
-use borrow.Author.Rules.{rules}
 use Rattle.cmd_text.proofs.Signed.{cast_fits, flipped_fits, flipped_read, down-one, above_read}
 use Rattle.cmd_text.proofs.magnitude.Goals as goal
 

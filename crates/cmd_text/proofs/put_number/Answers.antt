@@ -3,7 +3,6 @@
 use mathlib.Core.List.{◌++◌}
 use Rattle.cmd_text.specs.Text.{text, decimal}
 use Rattle.cmd_text.proofs.Lines.{room_first, room_second, room_third, put_three}
-use borrow.Author.Rules.{rules}
 use Rattle.cmd_text.proofs.put_number.Goals as goal
 
 pub put_text-a-requires : goal.put_text-a-requires

@@ -6,7 +6,6 @@ use lib.ListN.{length}
 use Rattle.cmd_text.specs.Text.{text, decimal}
 use Rattle.cmd_text.proofs.Signed.{signed_below, signed_above}
 use Rattle.cmd_text.proofs.Lines.{put_both}
-use borrow.Author.Rules.{rules}
 use Rattle.cmd_text.proofs.put_signed.Goals as goal
 
 pub put_text-a-requires : goal.put_text-a-requires

@@ -1,11 +1,8 @@
 -- `cmd_text::put_text` meets its contract.
 -- Assumes nothing.
 use mathlib.Core.Path.{refl}
-use Prim.Native.Nat.{◌-◌}
 use native.Mathlib.Omega.{arith}
-use lib.ListN.{length}
-use borrow.Author.Rules.{rules}
-use Rattle.cmd_text.proofs.Lines.{Laying, lay_starts, lay_more, lay_ends}
+use Rattle.cmd_text.proofs.Lines.{lay_starts, lay_more, lay_ends}
 use Rattle.cmd_text.proofs.put_text.Goals as goal
 
 pub loop-i-init : goal.loop-i-init

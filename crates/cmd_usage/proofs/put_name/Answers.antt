@@ -1,7 +1,6 @@
 -- `cmd_usage::put_name` meets its contract.
 -- Assumes nothing.
 use native.Mathlib.Omega.{arith}
-use borrow.Author.Rules.{rules}
 use Rattle.cmd_usage.proofs.put_name.Goals as goal
 
 pub returns-in-Draw : goal.returns-in-Draw

@@ -3,7 +3,6 @@
 use Rattle.cmd_text.specs.Text.{text}
 use Rattle.cmd_text.proofs.Lines.{put_three}
 use Rattle.cmd_usage.proofs.Programs.{subject_room}
-use borrow.Author.Rules.{rules}
 use Rattle.cmd_usage.proofs.put_subject.Goals as goal
 
 pub returns : goal.returns

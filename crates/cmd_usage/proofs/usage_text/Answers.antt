@@ -1,6 +1,5 @@
 -- `cmd_usage::usage_text` meets its contract.
 -- Assumes nothing.
-use borrow.Author.Rules.{rules}
 use Rattle.cmd_usage.proofs.usage_text.Goals as goal
 
 pub returns-in-Draw : goal.returns-in-Draw

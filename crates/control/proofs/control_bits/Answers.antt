@@ -1,6 +1,5 @@
 -- The paper's case.
 -- Assumes nothing.
-use borrow.Author.Rules.{rules}
 use Rattle.wirings.specs.Nets.{wiring_of}
 use Rattle.control.specs.Calls.{set_call}
 use Rattle.control.proofs.control_bits.Goals as goal

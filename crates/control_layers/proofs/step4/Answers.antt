@@ -1,7 +1,6 @@
 -- The sweeps do what step 4 says.
 -- Assumes nothing.
 use native.Mathlib.Omega.{arith}
-use borrow.Author.Rules.{rules}
 use mathlib.Core.Path.{refl, ap}
 use Prim.Native.Nat.{◌-◌}
 use Rattle.counts.specs.Counts.{up}

@@ -1,7 +1,6 @@
 -- The sweep does what step 5 says.
 -- Assumes nothing.
 use native.Mathlib.Omega.{arith}
-use borrow.Author.Rules.{rules}
 use mathlib.Core.Path.{ap}
 use Rattle.control_sweeps.proofs.Places.{small}
 use Rattle.control_walk.specs.declared.Walk.{Walk}

@@ -1,7 +1,6 @@
 -- The sweeps do what step 6 says.
 -- Assumes nothing.
 use native.Mathlib.Omega.{arith}
-use borrow.Author.Rules.{rules}
 use mathlib.Core.Path.{ap}
 use Rattle.network.specs.Network.{down}
 use Rattle.control_sweeps.proofs.Places.{small, covers_kept}

@@ -1,11 +1,10 @@
 -- The first i bits are given.
 -- Assumes nothing.
 use native.Mathlib.Omega.{arith}
-use borrow.Author.Rules.{rules}
 use mathlib.Core.Path.{◌≡◌, refl, ap, ◌∙◌}
-use Prim.Native.Nat.{◌+◌, ◌-◌, ◌≤◌}
+use Prim.Native.Nat.{◌+◌}
 use lib.Dec.{eqb}
-use lib.ListN.{length, get_or, length-set}
+use lib.ListN.{get_or, length-set}
 use Rattle.control_pairs.specs.Pairs.{bits_in}
 use Rattle.control_pairs.proofs.Settling.{bits_none, bits_step, given-bit, given_small}
 use Rattle.control_pairs.proofs.give_bits.Goals as goal

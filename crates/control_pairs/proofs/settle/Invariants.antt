@@ -1,18 +1,11 @@
 -- The first i pairs are as they will stand, and the lowest unmarked of them is known; c counts with i.
 -- Assumes nothing.
-use native.Mathlib.Omega.{arith}
-use mathlib.Core.Path.{◌≡◌, refl, sym, ap, ◌∙◌}
-use mathlib.Core.List.{List}
-use Prim.Native.Nat.{ℕ, ◌+◌, ◌-◌, ◌*◌, ◌%◌, ◌≤◌}
-use lib.Dec.{eqb}
-use lib.ListN.{length, length-set}
-use Rattle.answers.specs.Questions.{first_bad, first_bad_from}
+use mathlib.Core.Path.{◌≡◌}
+use Prim.Native.Nat.{◌+◌, ◌-◌, ◌*◌, ◌≤◌}
+use lib.ListN.{length}
 use Rattle.steps.specs.Sweeps.{store}
-use Rattle.select.proofs.Numbers.{byte_small}
 use Rattle.control_rows.specs.Rows.{sixteens}
-use Rattle.control_pairs.specs.Pairs.{mark_in, Numbered}
-use Rattle.control_pairs.proofs.Lowest.{low_of, good_in, low_step, least_within, low-marked, low_open, low_whole}
-use Rattle.control_pairs.proofs.Settling.{store_none, store_step, final, numbered_after, settled-pick, settled-final}
+use Rattle.control_pairs.proofs.Lowest.{low_of, good_in}
 use Rattle.control_pairs.proofs.settle.Given as goal
 
 abbrev pub invariant-loop-i : goal.invariant-loop-i

@@ -1,11 +1,8 @@
 -- The first i pairs hold their own numbers; c counts with i.
 -- Assumes nothing.
-use native.Mathlib.Omega.{arith}
-use mathlib.Core.Path.{◌≡◌, refl}
+use mathlib.Core.Path.{◌≡◌}
 use Prim.Native.Nat.{ℕ, ◌-◌, ◌≤◌, ◌<◌}
-use lib.ListN.{length, get_or, length-set}
-use Rattle.control_pairs.specs.Pairs.{Unmarked}
-use Rattle.control_pairs.proofs.Settling.{unmarked_more}
+use lib.ListN.{length, get_or}
 use Rattle.control_pairs.proofs.unmark.Given as goal
 
 abbrev pub invariant-loop-i : goal.invariant-loop-i

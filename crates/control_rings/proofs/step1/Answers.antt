@@ -1,7 +1,6 @@
 -- The sweeps give what step 1 says.
 -- Assumes nothing.
 use native.Mathlib.Omega.{arith}
-use borrow.Author.Rules.{rules}
 use mathlib.Core.Path.{refl}
 use Prim.Native.Nat.{◌-◌, ◌<◌}
 use lib.Dec.{eqb}

@@ -1,7 +1,6 @@
 -- The sweep gives what step 2 says.
 -- Assumes nothing.
 use native.Mathlib.Omega.{arith}
-use borrow.Author.Rules.{rules}
 use mathlib.Core.Path.{refl}
 use Rattle.counts.specs.Counts.{up}
 use Rattle.wirings.specs.Nets.{wiring_of}

@@ -1,7 +1,6 @@
 -- The product of the two bits is 1 where the ring is closed and a pair is unmarked.
 -- Assumes nothing.
 use native.Mathlib.Omega.{arith}
-use borrow.Author.Rules.{rules}
 use mathlib.Core.Bool.{false, cond}
 use Prim.Native.Nat.{◌*◌, ◌<◌}
 use lib.Dec.{ltb, eqb}

@@ -1,11 +1,10 @@
 -- The first loop gathers the values place by place, the second pads the row; both keep its length.
 -- Assumes nothing.
-use native.Mathlib.Omega.{arith}
 use mathlib.Core.Path.{◌≡◌}
 use Prim.Native.Nat.{◌+◌, ◌-◌, ◌*◌, ◌≤◌}
-use lib.ListN.{length, length-set}
+use lib.ListN.{length}
 use Rattle.control_rows.specs.Rows.{sixteens, Gathered}
-use Rattle.control_rows.proofs.Rows.{gather_none, gather_more, Filled, fill_none, fill_more, fill_all}
+use Rattle.control_rows.proofs.Rows.{Filled}
 use Rattle.control_rows.proofs.fill.Given as goal
 
 abbrev pub invariant-loop-i : goal.invariant-loop-i

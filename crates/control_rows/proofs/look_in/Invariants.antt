@@ -1,14 +1,8 @@
 -- What is gathered of the first i places is the number at q once q has passed; c counts with i.
 -- Assumes nothing.
-use native.Mathlib.Omega.{arith}
-use borrow.Author.Rules.{rules}
-use mathlib.Core.Path.{◌≡◌, refl}
-use mathlib.Core.Bool.{not}
-use Prim.Native.Nat.{◌-◌, ◌*◌, ◌≤◌}
-use lib.Dec.{ltb, eqb}
-use Rattle.steps.specs.Steps.{digit}
-use Rattle.select.proofs.Numbers.{digit_small, byte_small}
-use Rattle.control_rows.proofs.Counting.{looked_up, look_none, look_code, look_all}
+use mathlib.Core.Path.{◌≡◌}
+use Prim.Native.Nat.{◌-◌, ◌≤◌}
+use Rattle.control_rows.proofs.Counting.{looked_up}
 use Rattle.control_rows.proofs.look_in.Given as goal
 
 abbrev pub invariant-loop-i : goal.invariant-loop-i

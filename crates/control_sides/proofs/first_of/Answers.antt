@@ -1,7 +1,6 @@
 -- The pair's number, or twice it.
 -- Assumes nothing.
 use native.Mathlib.Omega.{arith}
-use borrow.Author.Rules.{rules}
 use Rattle.wirings.specs.Nets.{wiring_of}
 use Rattle.control_sides.proofs.first_of.Goals as goal
 

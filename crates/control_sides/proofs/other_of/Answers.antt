@@ -1,7 +1,6 @@
 -- The product with the carry is 2k or 0; or the place before or behind.
 -- Assumes nothing.
 use native.Mathlib.Omega.{arith}
-use borrow.Author.Rules.{rules}
 use Rattle.wirings.specs.Nets.{wiring_of}
 use Rattle.control_sides.proofs.Pairs.{pairs, neighbours}
 use Rattle.control_sides.proofs.other_of.Goals as goal

@@ -1,7 +1,6 @@
 -- The product with the carry is k or 0; or the half.
 -- Assumes nothing.
 use native.Mathlib.Omega.{arith}
-use borrow.Author.Rules.{rules}
 use Rattle.wirings.specs.Nets.{wiring_of}
 use Rattle.control_sides.proofs.Pairs.{pairs}
 use Rattle.control_sides.proofs.pair_of.Goals as goal

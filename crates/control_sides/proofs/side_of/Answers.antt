@@ -1,6 +1,5 @@
 -- The carry is the side; or the rest of the half.
 -- Assumes nothing.
-use borrow.Author.Rules.{rules}
 use Rattle.wirings.specs.Nets.{wiring_of}
 use Rattle.control_sides.proofs.Pairs.{pairs, neighbours}
 use Rattle.control_sides.proofs.side_of.Goals as goal

@@ -1,7 +1,6 @@
 -- k is regained under the bit's mask; or the value doubled and the bit added.
 -- Assumes nothing.
 use native.Mathlib.Omega.{arith}
-use borrow.Author.Rules.{rules}
 use Rattle.wirings.specs.Nets.{wiring_of}
 use Rattle.control_sides.proofs.Pairs.{regained, doubled}
 use Rattle.control_sides.proofs.value_of.Goals as goal

@@ -1,11 +1,10 @@
 -- The first i switches have acted on both tables.
 -- Assumes nothing.
 use native.Mathlib.Omega.{arith}
-use borrow.Author.Rules.{rules}
 use mathlib.Core.Path.{◌≡◌, refl}
 use mathlib.Core.Bool.{true, false}
-use Prim.Native.Nat.{◌+◌, ◌-◌, ◌≤◌}
-use lib.ListN.{length, length-set}
+use Prim.Native.Nat.{◌+◌}
+use lib.ListN.{length-set}
 use Rattle.steps.specs.Sweeps.{act}
 use Rattle.wirings.specs.Nets.{stepped}
 use Rattle.control_sweeps.proofs.Places.{at_place, pair_here, act-step}

@@ -2,8 +2,7 @@
 -- Assumes nothing.
 use native.Mathlib.Omega.{arith}
 use mathlib.Core.Path.{◌≡◌, refl}
-use Prim.Native.Nat.{◌-◌, ◌≤◌}
-use lib.ListN.{length, length-set}
+use lib.ListN.{length-set}
 use Rattle.steps.specs.Sweeps.{each}
 use Rattle.control_sweeps.proofs.Places.{each_step}
 use Rattle.control_sweeps.proofs.clear.Goals as goal

@@ -1,11 +1,9 @@
 -- The first i bytes are 0.
 -- Assumes nothing.
-use native.Mathlib.Omega.{arith}
-use mathlib.Core.Path.{◌≡◌, refl}
+use mathlib.Core.Path.{◌≡◌}
 use Prim.Native.Nat.{◌-◌, ◌≤◌}
-use lib.ListN.{length, length-set}
+use lib.ListN.{length}
 use Rattle.steps.specs.Sweeps.{each}
-use Rattle.control_sweeps.proofs.Places.{each_step}
 use Rattle.control_sweeps.proofs.clear.Given as goal
 
 abbrev pub invariant-loop-i : goal.invariant-loop-i

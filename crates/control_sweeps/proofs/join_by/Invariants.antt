@@ -1,13 +1,11 @@
 -- The first i values are again what they were and their trails have lost; those still to come are as they were.
 -- Assumes nothing.
-use native.Mathlib.Omega.{arith}
-use mathlib.Core.Path.{◌≡◌, refl}
+use mathlib.Core.Path.{◌≡◌}
 use Prim.Native.Nat.{◌+◌, ◌*◌, ◌-◌, ◌/◌, ◌%◌, ◌≤◌}
 use lib.Dec.{eqb}
-use lib.ListN.{length, get_or, length-set}
+use lib.ListN.{length, get_or}
 use Rattle.steps.specs.Sweeps.{each}
-use Rattle.wirings.specs.Nets.{wiring_of, net_of, place_of}
-use Rattle.control_sweeps.proofs.Places.{each_step, still, ahead-below, here}
+use Rattle.wirings.specs.Nets.{wiring_of}
 use Rattle.control_sweeps.proofs.join_by.Given as goal
 
 abbrev pub invariant-loop-i : goal.invariant-loop-i

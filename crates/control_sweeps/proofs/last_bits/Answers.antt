@@ -1,6 +1,5 @@
 -- The network's pairs, counted by steps.
 -- Assumes nothing.
-use borrow.Author.Rules.{rules}
 use mathlib.Core.Path.{refl, sym}
 use Rattle.wirings.proofs.Halves.{inside_more}
 use Rattle.control_sweeps.proofs.Places.{reaches_first, taken}

@@ -1,11 +1,9 @@
 -- The first i bits are written.
 -- Assumes nothing.
-use native.Mathlib.Omega.{arith}
-use mathlib.Core.Path.{◌≡◌, refl}
+use mathlib.Core.Path.{◌≡◌}
 use Prim.Native.Nat.{◌+◌, ◌*◌, ◌-◌, ◌%◌, ◌≤◌}
-use lib.ListN.{length, get_or, length-set}
+use lib.ListN.{length, get_or}
 use Rattle.steps.specs.Sweeps.{each}
-use Rattle.control_sweeps.proofs.Places.{each_step, pair_here}
 use Rattle.control_sweeps.proofs.last_by.Given as goal
 
 abbrev pub invariant-loop-i : goal.invariant-loop-i

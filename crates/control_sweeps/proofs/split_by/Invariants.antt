@@ -1,14 +1,11 @@
 -- The first i values have kept their pairs and their trails have gained; those still to come are as they were.
 -- Assumes nothing.
-use native.Mathlib.Omega.{arith}
-use mathlib.Core.Path.{◌≡◌, refl}
+use mathlib.Core.Path.{◌≡◌}
 use Prim.Native.Nat.{◌+◌, ◌*◌, ◌-◌, ◌≤◌}
-use lib.ListN.{length, get_or, length-set}
+use lib.ListN.{length, get_or}
 use Rattle.steps.specs.Steps.{digit}
 use Rattle.steps.specs.Sweeps.{each}
-use Rattle.wirings.specs.Nets.{wiring_of, net_of, place_of}
-use Rattle.select.proofs.Numbers.{digit_small}
-use Rattle.control_sweeps.proofs.Places.{each_step, still, ahead-below, here}
+use Rattle.wirings.specs.Nets.{wiring_of}
 use Rattle.control_sweeps.proofs.split_by.Given as goal
 
 abbrev pub invariant-loop-i : goal.invariant-loop-i

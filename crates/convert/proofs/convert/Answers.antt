@@ -1,11 +1,10 @@
 -- One question after the other, then the order that the setting carries, and its setting in the other wiring.
 -- Assumes nothing.
 use native.Mathlib.Omega.{arith}
-use mathlib.Core.Path.{◌≡◌, sym, ap, ◌∙◌}
-use Prim.Native.Nat.{ℕ, ◌≤◌}
-use lib.ListN.{length, replicate, length-replicate}
+use mathlib.Core.Path.{sym, ap, ◌∙◌}
+use Prim.Native.Nat.{ℕ}
+use lib.ListN.{replicate, length-replicate}
 use lib.Seq.{length-take-le}
-use borrow.Author.Rules.{rules}
 use Rattle.answers.specs.Answers.{refusal}
 use Rattle.bits.proofs.Bytes.{bits_all}
 use Rattle.questions.proofs.Lists.{first_no_lem}

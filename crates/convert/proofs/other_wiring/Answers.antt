@@ -1,6 +1,5 @@
 -- The other case.
 -- Assumes nothing.
-use borrow.Author.Rules.{rules}
 use Rattle.convert.specs.Calls.{across}
 use Rattle.convert.proofs.other_wiring.Goals as goal
 

@@ -5,7 +5,7 @@ use native.Mathlib.Omega.{arith}
 use Rattle.counts.specs.Counts.{E}
 use Rattle.counts.proofs.Rule.{up_parts, E_none, E_two, E_more}
 use Rattle.counts.proofs.Bounds.{E_small}
-use Prim.Native.Nat.{ℕ, ◌+◌, ◌-◌, ◌*◌, ◌/◌, ◌%◌, ◌≤◌, ◌<◌}
+use Prim.Native.Nat.{ℕ, ◌+◌, ◌-◌, ◌*◌, ◌/◌, ◌%◌, ◌≤◌}
 use Rattle.counts.proofs.+entries_by_halves.Goals as goal
 
 -- the rule, with the top's places as the code has them

@@ -5,7 +5,7 @@ use native.Mathlib.Omega.{arith}
 use Rattle.counts.specs.Counts.{W}
 use Rattle.counts.proofs.Rule.{up_parts, W_none, W_more}
 use Rattle.counts.proofs.Bounds.{W_small}
-use Prim.Native.Nat.{ℕ, ◌+◌, ◌-◌, ◌/◌, ◌%◌, ◌≤◌, ◌<◌}
+use Prim.Native.Nat.{ℕ, ◌+◌, ◌-◌, ◌/◌, ◌%◌, ◌≤◌}
 use Rattle.counts.proofs.+switches_by_halves.Goals as goal
 
 -- the rule, with the top's places as the code has them

@@ -1,11 +1,5 @@
 -- The proof of the cycle of calls {switches_by_halves}. The measure is n. No sum exceeds W n, and W n is small.
 -- Assumes nothing.
-use mathlib.Core.Path.{◌≡◌, sym}
-use native.Mathlib.Omega.{arith}
-use Rattle.counts.specs.Counts.{W}
-use Rattle.counts.proofs.Rule.{up_parts, W_none, W_more}
-use Rattle.counts.proofs.Bounds.{W_small}
-use Prim.Native.Nat.{ℕ, ◌+◌, ◌-◌, ◌/◌, ◌%◌, ◌≤◌, ◌<◌}
 use Rattle.counts.proofs.+switches_by_halves.Given as goal
 
 abbrev pub decreases-switches_by_halves : goal.decreases-switches_by_halves

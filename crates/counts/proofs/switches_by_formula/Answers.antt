@@ -4,7 +4,6 @@ use mathlib.Core.Path.{sym}
 use native.Mathlib.Omega.{arith}
 use Rattle.counts.proofs.Rule.{W_none}
 use Rattle.counts.proofs.Bounds.{In64, W_in_64}
-use borrow.Author.Rules.{rules}
 use Rattle.counts.proofs.switches_by_formula.Goals as goal
 
 told : (c : goal.After-digits-l) → In64 c.args.n c.digits-l.result

@@ -11,7 +11,6 @@ use Rattle.answers.specs.Questions.{first_no}
 use Rattle.answers.specs.Outcomes.{outcome}
 use Rattle.shuffle.specs.Shuffled.{order_from}
 use Rattle.cmd_draw.specs.Draw.{words_in, order_bytes, draw_questions, draw_from, draw_call}
-use borrow.Author.Rules.{rules}
 use Rattle.draw.proofs.draw.Goals as goal
 
 -- the order's bytes are within the buffer

@@ -3,7 +3,6 @@
 use mathlib.Core.Path.{sym}
 use native.Mathlib.Omega.{arith}
 use lib.Seq.{length-take-le}
-use borrow.Author.Rules.{rules}
 use Rattle.draw.proofs.main.Goals as goal
 
 pub slice_bounds-read-end : goal.slice_bounds-read-end

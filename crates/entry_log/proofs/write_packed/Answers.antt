@@ -1,7 +1,6 @@
 -- The words of an entry, one after the other.
 -- Assumes nothing.
 use native.Mathlib.Omega.{arith}
-use borrow.Author.Rules.{rules}
 use Prim.Native.Nat.{◌*◌, ◌/◌, ◌%◌}
 use lib.ListN.{length-set}
 use Rattle.network.specs.Log.{entry_words}

@@ -1,6 +1,6 @@
 -- The loop over the parts of 8 bytes. Its invariant: the first j parts of both blocks are switched.
 -- Assumes nothing.
-use Rattle.std.proofs.Common.{◌≡◌, ◌-◌, ◌*◌, ◌/◌, ◌≤◌, length, refl, ap, ◌∙◌, arith}
+use Rattle.std.proofs.Common.{◌≡◌, ◌*◌, ◌/◌, refl, ap, ◌∙◌, arith}
 use Rattle.exchange_words.specs.Bytes.{bytes_switched}
 use Rattle.exchange_blocks.proofs.Parts.{none, part_more}
 use Rattle.exchange_blocks.proofs.eights.Goals as goal

@@ -1,10 +1,7 @@
 -- The loop over the bytes of two parts. Its invariant: the first j of both arrays are switched.
 -- Assumes nothing.
-use Rattle.std.proofs.Common.{◌≡◌, ◌+◌, ◌-◌, ◌<◌, ◌≤◌, get_or, ap, ◌∙◌, arith, rules}
-use Rattle.exchange_words.specs.Words.{written}
-use Rattle.exchange_words.proofs.Masked.{masked_byte}
-use Rattle.exchange_words.proofs.Written.{Picked, parts_switched}
-use Rattle.exchange_blocks.proofs.Parts.{Halfway, half_none, half_more, taken}
+use Rattle.std.proofs.Common.{◌-◌, ◌≤◌}
+use Rattle.exchange_blocks.proofs.Parts.{Halfway}
 use Rattle.exchange_blocks.proofs.exchange32.Given as goal
 
 abbrev pub invariant-loop-j : goal.invariant-loop-j

@@ -1,6 +1,6 @@
 -- The loop over the bytes of a part. Its invariant: the first j are written.
 -- Assumes nothing.
-use Rattle.std.proofs.Common.{◌≡◌, ◌+◌, ◌-◌, ◌≤◌, length, get_or, set, refl, ap, ◌∙◌, arith, length-set}
+use Rattle.std.proofs.Common.{◌≡◌, ◌+◌, get_or, set, refl, ap, ◌∙◌, arith, length-set}
 use Rattle.exchange_words.specs.Words.{written}
 use Rattle.exchange_blocks.proofs.Parts.{one_more}
 use Rattle.exchange_blocks.proofs.put32.Goals as goal

@@ -1,7 +1,6 @@
 -- The loop over the bytes of a part. Its invariant: the first j are taken.
 -- Assumes nothing.
-use Rattle.std.proofs.Common.{◌≡◌, ℕ, ◌+◌, ◌-◌, ◌<◌, ◌≤◌, length, get_or, refl, ◌∙◌, arith, length-set}
-use Rattle.exchange_words.specs.Words.{from}
+use Rattle.std.proofs.Common.{◌+◌, get_or, refl, ◌∙◌, arith, length-set}
 use Rattle.exchange_blocks.proofs.Parts.{one_taken}
 use Rattle.exchange_blocks.proofs.take32.Goals as goal
 

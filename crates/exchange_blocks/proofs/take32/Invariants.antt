@@ -1,8 +1,7 @@
 -- The loop over the bytes of a part. Its invariant: the first j are taken.
 -- Assumes nothing.
-use Rattle.std.proofs.Common.{◌≡◌, ℕ, ◌+◌, ◌-◌, ◌<◌, ◌≤◌, length, get_or, refl, ◌∙◌, arith, length-set}
+use Rattle.std.proofs.Common.{◌≡◌, ℕ, ◌-◌, ◌<◌, ◌≤◌, length, get_or}
 use Rattle.exchange_words.specs.Words.{from}
-use Rattle.exchange_blocks.proofs.Parts.{one_taken}
 use Rattle.exchange_blocks.proofs.take32.Given as goal
 
 abbrev pub invariant-loop-j : goal.invariant-loop-j

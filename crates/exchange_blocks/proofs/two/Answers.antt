@@ -1,6 +1,6 @@
 -- 2 bytes where the digit is 1, none where it is 0.
 -- Assumes nothing.
-use Rattle.std.proofs.Common.{◌≡◌, ◌*◌, ◌/◌, ◌%◌, ap, ◌∙◌, arith, rules}
+use Rattle.std.proofs.Common.{◌≡◌, ◌*◌, ◌/◌, ◌%◌, ap, ◌∙◌, arith}
 use Rattle.exchange_words.specs.Bytes.{bytes_switched}
 use Rattle.exchange_blocks.proofs.Parts.{none}
 use Rattle.exchange_blocks.proofs.two.Goals as goal

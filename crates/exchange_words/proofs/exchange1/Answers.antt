@@ -1,6 +1,6 @@
 -- Two bytes, switched as numbers.
 -- Assumes nothing.
-use Rattle.std.proofs.Common.{arith, length-set, rules}
+use Rattle.std.proofs.Common.{arith, length-set}
 use Rattle.exchange_words.proofs.Words.{byte_switched}
 use Rattle.exchange_words.proofs.exchange1.Goals as goal
 

@@ -1,6 +1,6 @@
 -- Two numbers of 2 bytes, switched and put back.
 -- Assumes nothing.
-use Rattle.std.proofs.Common.{ap, ◌∙◌, rules}
+use Rattle.std.proofs.Common.{ap, ◌∙◌}
 use Rattle.exchange_words.specs.Words.{byte_of, written}
 use Rattle.exchange_words.proofs.Words.{numbers_switched}
 use Rattle.exchange_words.proofs.exchange2.Goals as goal

@@ -1,6 +1,6 @@
 -- Two bytes of a part.
 -- Assumes nothing.
-use Rattle.std.proofs.Common.{◌-◌, length, ◌∙◌, arith, rules}
+use Rattle.std.proofs.Common.{◌-◌, length, ◌∙◌, arith}
 use Rattle.exchange_words.specs.Words.{number}
 use Rattle.exchange_words.proofs.Written.{part_at}
 use Rattle.exchange_words.proofs.get2.Goals as goal

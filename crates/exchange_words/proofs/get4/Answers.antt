@@ -1,6 +1,6 @@
 -- Twice 2 bytes of a part.
 -- Assumes nothing.
-use Rattle.std.proofs.Common.{◌-◌, length, ◌∙◌, arith, rules}
+use Rattle.std.proofs.Common.{◌-◌, length, ◌∙◌, arith}
 use Rattle.exchange_words.specs.Words.{from}
 use Rattle.exchange_words.proofs.Words.{number-front, number-part, number_four}
 use Rattle.exchange_words.proofs.get4.Goals as goal

@@ -1,6 +1,6 @@
 -- Twice 4 bytes of a part.
 -- Assumes nothing.
-use Rattle.std.proofs.Common.{◌-◌, length, ◌∙◌, arith, rules}
+use Rattle.std.proofs.Common.{◌-◌, length, ◌∙◌, arith}
 use Rattle.exchange_words.specs.Words.{from}
 use Rattle.exchange_words.proofs.Words.{number-front, number-part, number_eight}
 use Rattle.exchange_words.proofs.get8.Goals as goal

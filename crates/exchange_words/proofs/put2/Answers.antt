@@ -1,6 +1,6 @@
 -- Two bytes of a part.
 -- Assumes nothing.
-use Rattle.std.proofs.Common.{◌≡◌, ◌+◌, ◌-◌, length, ap, ◌∙◌, arith, length-set, rules}
+use Rattle.std.proofs.Common.{◌≡◌, ◌+◌, ◌-◌, length, ap, ◌∙◌, arith, length-set}
 use borrow.Rule.Slice.PartMut.{mid_of, put_same}
 use Rattle.exchange_words.specs.Words.{byte_of, written}
 use Rattle.exchange_words.proofs.Written.{part-written}

@@ -1,6 +1,6 @@
 -- Twice 2 bytes of a part.
 -- Assumes nothing.
-use Rattle.std.proofs.Common.{◌-◌, ◌/◌, length, refl, ap, ◌∙◌, arith, rules}
+use Rattle.std.proofs.Common.{◌-◌, ◌/◌, length, refl, ap, ◌∙◌, arith}
 use borrow.Rule.Slice.PartMut.{put_mid}
 use Rattle.exchange_words.specs.Words.{byte_of, written}
 use Rattle.exchange_words.proofs.Written.{part_more}

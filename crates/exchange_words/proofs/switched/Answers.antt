@@ -1,6 +1,6 @@
 -- One number gains and the other loses their masked difference.
 -- Assumes nothing.
-use Rattle.std.proofs.Common.{arith, rules}
+use Rattle.std.proofs.Common.{arith}
 use Rattle.exchange_words.proofs.Masked.{masked_word}
 use Rattle.exchange_words.proofs.switched.Goals as goal
 

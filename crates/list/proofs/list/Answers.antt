@@ -3,7 +3,6 @@
 use mathlib.Core.Path.{sym}
 use lib.Seq.{length-take-le}
 use Rattle.cmd_text.proofs.Written.{text_fits}
-use borrow.Author.Rules.{rules}
 use Rattle.list.proofs.list.Goals as goal
 
 pub slice_bounds-text-end : goal.slice_bounds-text-end

@@ -3,7 +3,6 @@
 use mathlib.Core.Path.{◌≡◌, sym, ap, ◌∙◌}
 use native.Mathlib.Omega.{arith}
 use lib.ListN.{length}
-use borrow.Author.Rules.{rules}
 use Rattle.counts.specs.Counts.{W}
 use Rattle.orders_listed.specs.Ranks.{order_at}
 use Rattle.orders_listed.proofs.OrderAt.{length_order_at, order_permutation}

@@ -1,6 +1,5 @@
 -- `numbers::answer` meets its contract.
 -- Assumes nothing.
-use borrow.Author.Rules.{rules}
 use mathlib.Core.Path.{sym, ap, ◌∙◌}
 use Rattle.numbers.specs.Reading.{answer_of}
 use Rattle.numbers.proofs.answer.Goals as goal

@@ -3,7 +3,6 @@
 use native.Mathlib.Omega.{arith}
 use lib.ListN.{length-set}
 use Rattle.numbers.proofs.Writing.{put_one, put_two}
-use borrow.Author.Rules.{rules}
 use Rattle.numbers.proofs.put_number.Goals as goal
 
 pub returns-then-v-lt128 : goal.returns-then-v-lt128

@@ -3,7 +3,6 @@
 use mathlib.Core.Path.{ap, ◌∙◌}
 use Rattle.numbers.specs.Reading.{meaning}
 use Rattle.numbers.proofs.Numbers.{none, one, cut, needless, third, two}
-use borrow.Author.Rules.{rules}
 use Rattle.numbers.proofs.read_number.Goals as goal
 
 pub returns-then-input-at : goal.returns-then-input-at

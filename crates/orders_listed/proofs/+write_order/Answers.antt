@@ -1,10 +1,9 @@
 -- One entry, and the order of the others; the number of places falls at each call.
 -- Assumes nothing.
 use mathlib.Core.Path.{◌≡◌, ap, ◌∙◌}
-use Prim.Native.Nat.{ℕ, ◌-◌, ◌<◌}
+use Prim.Native.Nat.{◌-◌}
 use native.Mathlib.Omega.{arith}
 use lib.ListN.{length}
-use borrow.Author.Rules.{rules}
 use Rattle.orders_listed.specs.Ranks.{factorial}
 use Rattle.orders_listed.proofs.OrderAt.{length_order_at}
 use Rattle.orders_listed.proofs.Writing.{Begun, more, starts, used, left_below, first_small, length-others, continued, below, finished, order_none, lent}
@@ -25,73 +24,72 @@ first_digit-d-requires t c = let n = length c.args.order.now in
 pub overflow_mul-d : goal.overflow_mul-d
 overflow_mul-d t c =
     let B : Begun c.args.order.now c.args.r c.count_orders-f.result c.first_digit-d.result =
-      record {
-        some = omega (arith, c.if-n-eq0.false);
-        ranked = c.requires.1;
-        factor = omega (arith, c.count_orders-f.ensures.0);
-        first = c.first_digit-d.ensures;
-      }
+    record {
+      some = omega (arith, c.if-n-eq0.false);
+      ranked = c.requires.1;
+      factor = omega (arith, c.count_orders-f.ensures.0);
+      first = c.first_digit-d.ensures;
+    }
     in
     omega (arith, used B)
 
 pub overflow_sub-r : goal.overflow_sub-r
 overflow_sub-r t c =
     let B : Begun c.args.order.now c.args.r c.count_orders-f.result c.first_digit-d.result =
-      record {
-        some = omega (arith, c.if-n-eq0.false);
-        ranked = c.requires.1;
-        factor = omega (arith, c.count_orders-f.ensures.0);
-        first = c.first_digit-d.ensures;
-      }
+    record {
+      some = omega (arith, c.if-n-eq0.false);
+      ranked = c.requires.1;
+      factor = omega (arith, c.count_orders-f.ensures.0);
+      first = c.first_digit-d.ensures;
+    }
     in
     used B
 
 pub slice_bounds-write_order-count : goal.slice_bounds-write_order-count
 slice_bounds-write_order-count t c =
     let B : Begun c.args.order.now c.args.r c.count_orders-f.result c.first_digit-d.result =
-      record {
-        some = omega (arith, c.if-n-eq0.false);
-        ranked = c.requires.1;
-        factor = omega (arith, c.count_orders-f.ensures.0);
-        first = c.first_digit-d.ensures;
-      }
+    record {
+      some = omega (arith, c.if-n-eq0.false);
+      ranked = c.requires.1;
+      factor = omega (arith, c.count_orders-f.ensures.0);
+      first = c.first_digit-d.ensures;
+    }
     in
     rw (starts B) (omega arith)
 
 pub write_order-requires : goal.write_order-requires
 write_order-requires t c = let B : Begun c.args.order.now c.args.r c.count_orders-f.result c.first_digit-d.result =
-      record {
-        some = omega (arith, c.if-n-eq0.false);
-        ranked = c.requires.1;
-        factor = omega (arith, c.count_orders-f.ensures.0);
-        first = c.first_digit-d.ensures;
-      }
-    in
-    (
-  omega (arith, length-others B, c.requires.0, B.some),
-  (omega (arith, length-others B, c.requires.0), rw (length-others B) (left_below B)),
-)
+    record {
+      some = omega (arith, c.if-n-eq0.false);
+      ranked = c.requires.1;
+      factor = omega (arith, c.count_orders-f.ensures.0);
+      first = c.first_digit-d.ensures;
+    }
+    in (
+      omega (arith, length-others B, c.requires.0, B.some),
+      (omega (arith, length-others B, c.requires.0), rw (length-others B) (left_below B)),
+    )
 
 pub slice_bounds-make_way-count : goal.slice_bounds-make_way-count
 slice_bounds-make_way-count t c =
     let B : Begun c.args.order.now c.args.r c.count_orders-f.result c.first_digit-d.result =
-      record {
-        some = omega (arith, c.if-n-eq0.false);
-        ranked = c.requires.1;
-        factor = omega (arith, c.count_orders-f.ensures.0);
-        first = c.first_digit-d.ensures;
-      }
+    record {
+      some = omega (arith, c.if-n-eq0.false);
+      ranked = c.requires.1;
+      factor = omega (arith, c.count_orders-f.ensures.0);
+      first = c.first_digit-d.ensures;
+    }
     in
     rw (continued B c.write_order.ensures) (omega arith)
 
 pub make_way-requires : goal.make_way-requires
 make_way-requires t c = let B : Begun c.args.order.now c.args.r c.count_orders-f.result c.first_digit-d.result =
-      record {
-        some = omega (arith, c.if-n-eq0.false);
-        ranked = c.requires.1;
-        factor = omega (arith, c.count_orders-f.ensures.0);
-        first = c.first_digit-d.ensures;
-      }
+    record {
+      some = omega (arith, c.if-n-eq0.false);
+      ranked = c.requires.1;
+      factor = omega (arith, c.count_orders-f.ensures.0);
+      first = c.first_digit-d.ensures;
+    }
     in
     let ys = c.write_order in (
       omega (arith, first_small B, c.requires.0),
@@ -100,12 +98,12 @@ make_way-requires t c = let B : Begun c.args.order.now c.args.r c.count_orders-f
 
 pub returns : goal.returns
 returns t c = let B : Begun c.args.order.now c.args.r c.count_orders-f.result c.first_digit-d.result =
-      record {
-        some = omega (arith, c.if-n-eq0.false);
-        ranked = c.requires.1;
-        factor = omega (arith, c.count_orders-f.ensures.0);
-        first = c.first_digit-d.ensures;
-      }
+    record {
+      some = omega (arith, c.if-n-eq0.false);
+      ranked = c.requires.1;
+      factor = omega (arith, c.count_orders-f.ensures.0);
+      first = c.first_digit-d.ensures;
+    }
     in
     finished B c.write_order.ensures c.make_way.ensures
 

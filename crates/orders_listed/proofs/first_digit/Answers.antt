@@ -1,13 +1,12 @@
 -- The multiples of f that are at most r, counted: at the end they are all that go into r.
 -- Assumes nothing.
-use mathlib.Core.Path.{◌≡◌, ◌∙◌}
+use mathlib.Core.Path.{◌∙◌}
 use mathlib.Core.Bool.{not}
-use Prim.Native.Nat.{◌*◌, ◌-◌, ◌≤◌}
+use Prim.Native.Nat.{◌*◌}
 use native.Mathlib.Omega.{arith}
 use lib.Dec.{ltb}
-use borrow.Author.Rules.{rules}
 use Rattle.select.proofs.Numbers.{digit_small}
-use Rattle.orders_listed.proofs.Digits.{reached, multiple_small, reached_more, reached_all, some_factor}
+use Rattle.orders_listed.proofs.Digits.{multiple_small, reached_more, reached_all, some_factor}
 use Rattle.orders_listed.proofs.first_digit.Goals as goal
 
 pub loop-i-init : goal.loop-i-init

@@ -1,13 +1,8 @@
 -- The multiples of f that are at most r, counted: at the end they are all that go into r.
 -- Assumes nothing.
-use mathlib.Core.Path.{◌≡◌, ◌∙◌}
-use mathlib.Core.Bool.{not}
-use Prim.Native.Nat.{◌*◌, ◌-◌, ◌≤◌}
-use native.Mathlib.Omega.{arith}
-use lib.Dec.{ltb}
-use borrow.Author.Rules.{rules}
-use Rattle.select.proofs.Numbers.{digit_small}
-use Rattle.orders_listed.proofs.Digits.{reached, multiple_small, reached_more, reached_all, some_factor}
+use mathlib.Core.Path.{◌≡◌}
+use Prim.Native.Nat.{◌-◌, ◌≤◌}
+use Rattle.orders_listed.proofs.Digits.{reached}
 use Rattle.orders_listed.proofs.first_digit.Given as goal
 
 abbrev pub invariant-loop-i : goal.invariant-loop-i

@@ -2,16 +2,13 @@
 -- Assumes nothing.
 use mathlib.Core.Path.{◌≡◌}
 use mathlib.Core.Bool.{not}
-use mathlib.Core.List.{map}
-use Prim.Native.Nat.{◌-◌, ◌<◌}
+use Prim.Native.Nat.{◌<◌}
 use native.Mathlib.Omega.{arith}
 use lib.Dec.{ltb}
-use lib.ListN.{length, get_or}
-use borrow.Author.Rules.{rules}
-use Rattle.answers.proofs.Putting.{Over, over_starts}
+use lib.ListN.{get_or}
+use Rattle.answers.proofs.Putting.{over_starts}
 use Rattle.steps.specs.Steps.{digit}
 use Rattle.select.proofs.Numbers.{digit_small}
-use Rattle.orders_listed.specs.Ranks.{past}
 use Rattle.orders_listed.proofs.Digits.{entry_small, way_more, way_made}
 use Rattle.orders_listed.proofs.make_way.Goals as goal
 

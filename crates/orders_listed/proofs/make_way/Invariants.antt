@@ -1,18 +1,10 @@
 -- The first i entries have made way; an entry still to come is as it was.
 -- Assumes nothing.
-use mathlib.Core.Path.{◌≡◌}
-use mathlib.Core.Bool.{not}
 use mathlib.Core.List.{map}
-use Prim.Native.Nat.{◌-◌, ◌<◌}
-use native.Mathlib.Omega.{arith}
-use lib.Dec.{ltb}
-use lib.ListN.{length, get_or}
-use borrow.Author.Rules.{rules}
-use Rattle.answers.proofs.Putting.{Over, over_starts}
-use Rattle.steps.specs.Steps.{digit}
-use Rattle.select.proofs.Numbers.{digit_small}
+use Prim.Native.Nat.{◌-◌}
+use lib.ListN.{length}
+use Rattle.answers.proofs.Putting.{Over}
 use Rattle.orders_listed.specs.Ranks.{past}
-use Rattle.orders_listed.proofs.Digits.{entry_small, way_more, way_made}
 use Rattle.orders_listed.proofs.make_way.Given as goal
 
 abbrev pub invariant-loop-i : goal.invariant-loop-i

@@ -1,13 +1,8 @@
 -- `permutation::count_matches` meets its contract.
 -- Assumes nothing.
-use borrow.Author.Rules.{rules}
 use mathlib.Core.Path.{◌≡◌}
 use Prim.Native.Nat.{◌-◌, ◌≤◌}
-use native.Mathlib.Omega.{arith}
-use lib.Dec.{eqb}
-use lib.ListN.{get_or}
 use Rattle.permutation.specs.Permutations.{matches}
-use Rattle.permutation.proofs.Sweeps.{bit_small, none_counted, one-counted, counted_within}
 use Rattle.permutation.proofs.count_matches.Given as goal
 
 abbrev pub invariant-loop-j : goal.invariant-loop-j

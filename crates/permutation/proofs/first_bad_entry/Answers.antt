@@ -1,11 +1,7 @@
 -- `permutation::first_bad_entry` meets its contract.
 -- Assumes nothing.
-use borrow.Author.Rules.{rules}
-use Prim.Native.Nat.{◌-◌}
 use native.Mathlib.Omega.{arith}
-use lib.ListN.{length}
-use Rattle.permutation.specs.Permutations.{good_entry}
-use Rattle.permutation.proofs.Sweeps.{Sweeping, sweeping_starts, sweeping_more, sweeping_ends}
+use Rattle.permutation.proofs.Sweeps.{sweeping_starts, sweeping_more, sweeping_ends}
 use Rattle.permutation.proofs.Permutations.{good_found}
 use Rattle.permutation.proofs.first_bad_entry.Goals as goal
 

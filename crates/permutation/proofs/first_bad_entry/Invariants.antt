@@ -1,12 +1,9 @@
 -- `permutation::first_bad_entry` meets its contract.
 -- Assumes nothing.
-use borrow.Author.Rules.{rules}
 use Prim.Native.Nat.{◌-◌}
-use native.Mathlib.Omega.{arith}
 use lib.ListN.{length}
 use Rattle.permutation.specs.Permutations.{good_entry}
-use Rattle.permutation.proofs.Sweeps.{Sweeping, sweeping_starts, sweeping_more, sweeping_ends}
-use Rattle.permutation.proofs.Permutations.{good_found}
+use Rattle.permutation.proofs.Sweeps.{Sweeping}
 use Rattle.permutation.proofs.first_bad_entry.Given as goal
 
 abbrev pub invariant-loop-i : goal.invariant-loop-i

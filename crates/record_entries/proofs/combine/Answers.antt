@@ -2,13 +2,13 @@
 -- Assumes nothing.
 use borrow.Author.Rules.{rules}
 use mathlib.Core.Path.{◌≡◌, refl}
-use Prim.Native.Nat.{◌-◌, ◌<◌}
+use Prim.Native.Nat.{◌<◌}
 use native.Mathlib.Omega.{arith}
-use lib.ListN.{length, get_or, take}
+use lib.ListN.{length, take}
 use lib.Seq.{get_or-take}
 use Rattle.permutation.specs.Permutations.{IsPermutation}
-use Rattle.record_questions.proofs.Counting.{Counting, counting_starts, counting_more}
-use Rattle.record_entries.proofs.Fillings.{Filling, filling_starts, filling_more, combined_read, combined_filled}
+use Rattle.record_questions.proofs.Counting.{counting_starts, counting_more}
+use Rattle.record_entries.proofs.Fillings.{filling_starts, filling_more, combined_read, combined_filled}
 use Rattle.record_entries.proofs.combine.Goals as goal
 
 -- the entry that was read is a place

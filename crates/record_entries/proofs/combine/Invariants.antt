@@ -1,14 +1,9 @@
 -- `record_entries::combine` meets its contract.
 -- Assumes nothing.
-use borrow.Author.Rules.{rules}
-use mathlib.Core.Path.{◌≡◌, refl}
-use Prim.Native.Nat.{◌-◌, ◌<◌}
-use native.Mathlib.Omega.{arith}
-use lib.ListN.{length, get_or, take}
-use lib.Seq.{get_or-take}
-use Rattle.permutation.specs.Permutations.{IsPermutation}
-use Rattle.record_questions.proofs.Counting.{Counting, counting_starts, counting_more}
-use Rattle.record_entries.proofs.Fillings.{Filling, filling_starts, filling_more, combined_read, combined_filled}
+use Prim.Native.Nat.{◌-◌}
+use lib.ListN.{get_or, take}
+use Rattle.record_questions.proofs.Counting.{Counting}
+use Rattle.record_entries.proofs.Fillings.{Filling}
 use Rattle.record_entries.proofs.combine.Given as goal
 
 abbrev pub invariant-loop-i : goal.invariant-loop-i

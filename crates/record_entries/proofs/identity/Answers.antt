@@ -1,10 +1,8 @@
 -- `record_entries::identity` meets its contract.
 -- Assumes nothing.
-use borrow.Author.Rules.{rules}
 use mathlib.Core.Path.{refl}
-use Prim.Native.Nat.{◌-◌}
 use native.Mathlib.Omega.{arith}
-use Rattle.record_entries.proofs.Fillings.{Filling, filling_starts, filling_more, filled}
+use Rattle.record_entries.proofs.Fillings.{filling_starts, filling_more, filled}
 use Rattle.permutation.specs.Permutations.{identity}
 use Rattle.permutation.proofs.Laws.{identity-at, identity-length}
 use Rattle.record_entries.proofs.identity.Goals as goal

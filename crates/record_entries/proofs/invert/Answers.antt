@@ -1,13 +1,12 @@
 -- `record_entries::invert` meets its contract.
 -- Assumes nothing.
 use Rattle.permutation.specs.Permutations.{IsPermutation}
-use borrow.Author.Rules.{rules}
 use mathlib.Core.Path.{refl, sym, ◌∙◌}
-use Prim.Native.Nat.{◌-◌, ◌<◌}
+use Prim.Native.Nat.{◌<◌}
 use native.Mathlib.Omega.{arith}
-use lib.ListN.{get_or, take}
+use lib.ListN.{take}
 use lib.Seq.{get_or-take}
-use Rattle.record_entries.proofs.Fillings.{Filling, filling_starts, filling_more, filled_back}
+use Rattle.record_entries.proofs.Fillings.{filling_starts, filling_more, filled_back}
 use Rattle.record_entries.proofs.invert.Goals as goal
 
 -- the entry that was read is a place

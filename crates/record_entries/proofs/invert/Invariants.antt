@@ -1,13 +1,8 @@
 -- `record_entries::invert` meets its contract.
 -- Assumes nothing.
-use Rattle.permutation.specs.Permutations.{IsPermutation}
-use borrow.Author.Rules.{rules}
-use mathlib.Core.Path.{refl, sym, ◌∙◌}
-use Prim.Native.Nat.{◌-◌, ◌<◌}
-use native.Mathlib.Omega.{arith}
+use Prim.Native.Nat.{◌-◌}
 use lib.ListN.{get_or, take}
-use lib.Seq.{get_or-take}
-use Rattle.record_entries.proofs.Fillings.{Filling, filling_starts, filling_more, filled_back}
+use Rattle.record_entries.proofs.Fillings.{Filling}
 use Rattle.record_entries.proofs.invert.Given as goal
 
 abbrev pub invariant-loop-i : goal.invariant-loop-i

@@ -1,12 +1,9 @@
 -- `record_entries::of_list` meets its contract.
 -- Assumes nothing.
-use borrow.Author.Rules.{rules}
-use mathlib.Core.Path.{refl}
 use Prim.Native.Nat.{◌-◌}
-use native.Mathlib.Omega.{arith}
 use lib.ListN.{get_or}
-use Rattle.record_questions.proofs.Counting.{Counting, counting_starts, counting_more}
-use Rattle.record_entries.proofs.Fillings.{Filling, filling_starts, filling_more, filled_counted}
+use Rattle.record_questions.proofs.Counting.{Counting}
+use Rattle.record_entries.proofs.Fillings.{Filling}
 use Rattle.record_entries.proofs.of_list.Given as goal
 
 abbrev pub invariant-loop-i : goal.invariant-loop-i

@@ -4,7 +4,6 @@ use mathlib.Core.Path.{sym, ◌∙◌}
 use native.Mathlib.Omega.{arith}
 use lib.Seq.{length-take-le}
 use Rattle.record_questions.proofs.Questions.{examined_large, examined_bad, examined_number, examined_good}
-use borrow.Author.Rules.{rules}
 use Rattle.record_questions.proofs.examine.Goals as goal
 
 pub returns-then-n-gt-MOST_PLACES : goal.returns-then-n-gt-MOST_PLACES

@@ -1,13 +1,10 @@
 -- `record_questions::first_bad` meets its contract.
 -- Assumes nothing.
 use mathlib.Core.Path.{sym, ◌∙◌}
-use Prim.Native.Nat.{◌-◌, ◌≤◌}
 use native.Mathlib.Omega.{arith}
 use lib.Seq.{length-take-le}
-use Rattle.permutation.proofs.Sweeps.{Sweeping, sweeping_from, sweeping_more, sweeping_ends}
-use Rattle.record_questions.specs.Questions.{good_in_record}
+use Rattle.permutation.proofs.Sweeps.{sweeping_from, sweeping_more, sweeping_ends}
 use Rattle.record_questions.proofs.Questions.{good_past, front-bad}
-use borrow.Author.Rules.{rules}
 use Rattle.record_questions.proofs.first_bad.Goals as goal
 
 pub slice_bounds-first_bad_entry-end : goal.slice_bounds-first_bad_entry-end

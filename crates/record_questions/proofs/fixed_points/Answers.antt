@@ -1,11 +1,8 @@
 -- `record_questions::fixed_points` meets its contract.
 -- Assumes nothing.
-use borrow.Author.Rules.{rules}
 use mathlib.Core.Path.{refl, ◌∙◌}
-use Prim.Native.Nat.{◌-◌, ◌≤◌}
 use native.Mathlib.Omega.{arith}
-use lib.ListN.{get_or}
-use Rattle.record_questions.proofs.Counting.{Counting, counting_starts, counting_more, counted}
+use Rattle.record_questions.proofs.Counting.{counting_starts, counting_more, counted}
 use Rattle.record_questions.proofs.fixed_points.Goals as goal
 
 pub loop-i-init : goal.loop-i-init

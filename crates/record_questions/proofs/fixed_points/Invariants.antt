@@ -1,11 +1,8 @@
 -- `record_questions::fixed_points` meets its contract.
 -- Assumes nothing.
-use borrow.Author.Rules.{rules}
-use mathlib.Core.Path.{refl, ◌∙◌}
 use Prim.Native.Nat.{◌-◌, ◌≤◌}
-use native.Mathlib.Omega.{arith}
 use lib.ListN.{get_or}
-use Rattle.record_questions.proofs.Counting.{Counting, counting_starts, counting_more, counted}
+use Rattle.record_questions.proofs.Counting.{Counting}
 use Rattle.record_questions.proofs.fixed_points.Given as goal
 
 abbrev pub invariant-loop-i : goal.invariant-loop-i

@@ -3,7 +3,6 @@
 use mathlib.Core.Path.{refl}
 use lib.Dec.{eqb}
 use Rattle.permutation.proofs.Sweeps.{bit_small}
-use borrow.Author.Rules.{rules}
 use Rattle.record_questions.proofs.home.Goals as goal
 
 pub returns : goal.returns

@@ -2,7 +2,6 @@
 -- Assumes nothing.
 use mathlib.Core.Path.{◌∙◌}
 use Rattle.records.proofs.Replies.{asking_large, asking_given}
-use borrow.Author.Rules.{rules}
 use Rattle.records.proofs.fixed_points_of.Goals as goal
 
 pub returns-then-n-gt-MOST_PLACES : goal.returns-then-n-gt-MOST_PLACES

@@ -4,7 +4,6 @@ use mathlib.Core.Path.{sym, ◌∙◌}
 use Rattle.permutation.proofs.Laws.{identity-length}
 use Rattle.permutation.proofs.Counts.{identity_fixed}
 use Rattle.records.proofs.Records.{is_record_of}
-use borrow.Author.Rules.{rules}
 use Rattle.records.proofs.identity_record.Goals as goal
 
 pub returns : goal.returns

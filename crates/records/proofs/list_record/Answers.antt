@@ -2,7 +2,6 @@
 -- Assumes nothing.
 use mathlib.Core.Path.{refl, ◌∙◌}
 use Rattle.records.proofs.Records.{is_record_filled}
-use borrow.Author.Rules.{rules}
 use Rattle.records.proofs.list_record.Goals as goal
 
 pub returns : goal.returns

@@ -1,12 +1,9 @@
 -- `rows::put_row` meets its contract.
 -- Assumes nothing.
-use Prim.Native.Nat.{◌-◌}
 use native.Mathlib.Omega.{arith}
-use lib.ListN.{length}
 use borrow.Author.Rules.{rules}
-use Rattle.numbers.specs.Numbers.{sevens}
 use Rattle.numbers.proofs.Numbers.{bytes_few}
-use Rattle.rows.proofs.Writing.{Entering, entering_starts, entering_more, entering-ends}
+use Rattle.rows.proofs.Writing.{entering_starts, entering_more, entering-ends}
 use Rattle.rows.proofs.put_row.Goals as goal
 
 pub loop-j-init : goal.loop-j-init

@@ -1,12 +1,9 @@
 -- `rows::put_row` meets its contract.
 -- Assumes nothing.
 use Prim.Native.Nat.{◌-◌}
-use native.Mathlib.Omega.{arith}
 use lib.ListN.{length}
-use borrow.Author.Rules.{rules}
 use Rattle.numbers.specs.Numbers.{sevens}
-use Rattle.numbers.proofs.Numbers.{bytes_few}
-use Rattle.rows.proofs.Writing.{Entering, entering_starts, entering_more, entering-ends}
+use Rattle.rows.proofs.Writing.{Entering}
 use Rattle.rows.proofs.put_row.Given as goal
 
 abbrev pub invariant-loop-j : goal.invariant-loop-j

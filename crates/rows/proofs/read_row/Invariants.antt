@@ -1,13 +1,8 @@
 -- `rows::read_row` meets its contract.
 -- Assumes nothing.
-use borrow.Author.Rules.{rules}
-use native.Mathlib.Omega.{arith}
-use mathlib.Core.Path.{sym, ap, ◌∙◌}
 use Prim.Native.Nat.{◌-◌}
 use Rattle.numbers.specs.Numbers.{sevens}
-use Rattle.numbers.specs.Reading.{meaning}
-use Rattle.numbers.proofs.Numbers.{reads, refused, value_small}
-use Rattle.rows.proofs.Reading.{Reading, reading_starts, reading_more, reading_stops, reading_ends}
+use Rattle.rows.proofs.Reading.{Reading}
 use Rattle.rows.proofs.read_row.Given as goal
 
 abbrev pub invariant-loop-j : goal.invariant-loop-j

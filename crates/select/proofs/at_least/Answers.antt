@@ -1,6 +1,5 @@
 -- The carry of the sum tells whether a is b or more.
 -- Assumes nothing.
-use borrow.Author.Rules.{rules}
 use Rattle.select.proofs.Numbers.{carry}
 use Rattle.select.proofs.at_least.Goals as goal
 

@@ -1,7 +1,6 @@
 -- Neither is below the other.
 -- Assumes nothing.
 use native.Mathlib.Omega.{arith}
-use borrow.Author.Rules.{rules}
 use mathlib.Core.Bool.{not}
 use Prim.Native.Nat.{◌*◌, ◌<◌}
 use lib.Dec.{ltb}

@@ -1,6 +1,5 @@
 -- The mask is made of the test.
 -- Assumes nothing.
-use borrow.Author.Rules.{rules}
 use mathlib.Core.Path.{◌∙◌}
 use lib.Dec.{ltb}
 use Rattle.select.proofs.Numbers.{digit_small, digit_is}

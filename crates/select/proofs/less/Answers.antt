@@ -1,7 +1,5 @@
 -- Below 32768 a number is the same as a signed one.
 -- Assumes nothing.
-use borrow.Author.Rules.{rules}
-use native.Mathlib.Omega.{arith}
 use mir.Syntax.{w16}
 use mir.ValLaws.{to_z_pos}
 use lib.Dec.{ltb}

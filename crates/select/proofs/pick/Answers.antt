@@ -1,6 +1,5 @@
 -- A mask of all ones or all zeros takes one of the two.
 -- Assumes nothing.
-use borrow.Author.Rules.{rules}
 use mathlib.Core.Path.{refl}
 use Rattle.select.proofs.Numbers.{blend}
 use Rattle.select.proofs.pick.Goals as goal

@@ -2,7 +2,6 @@
 -- Assumes nothing.
 use native.Mathlib.Omega.{arith}
 use mathlib.Core.Path.{◌≡◌, refl, ◌∙◌}
-use Prim.Native.Nat.{◌-◌, ◌≤◌}
 use lib.ListN.{length, get_or, length-set}
 use Rattle.steps.specs.Sweeps.{each}
 use Rattle.control_sweeps.proofs.Places.{each_step}

@@ -1,12 +1,9 @@
 -- The first i entries are copied.
 -- Assumes nothing.
-use native.Mathlib.Omega.{arith}
-use mathlib.Core.Path.{◌≡◌, refl, ◌∙◌}
+use mathlib.Core.Path.{◌≡◌}
 use Prim.Native.Nat.{◌-◌, ◌≤◌}
-use lib.ListN.{length, get_or, length-set}
+use lib.ListN.{length, get_or}
 use Rattle.steps.specs.Sweeps.{each}
-use Rattle.control_sweeps.proofs.Places.{each_step}
-use Rattle.setter.proofs.Start.{copied}
 use Rattle.setter.proofs.load.Given as goal
 
 abbrev pub invariant-loop-i : goal.invariant-loop-i

@@ -1,6 +1,5 @@
 -- The paper's case.
 -- Assumes nothing.
-use borrow.Author.Rules.{rules}
 use Rattle.wirings.specs.Nets.{wiring_of}
 use Rattle.setter.proofs.set_order.Goals as goal
 

@@ -1,10 +1,8 @@
 -- `carried::number` meets its contract.
 -- Assumes nothing.
 use lib.ListN.{length-set}
-use Prim.Native.Nat.{◌-◌}
 use native.Mathlib.Omega.{arith}
-use borrow.Author.Rules.{rules}
-use Rattle.setting_order.proofs.Numbering.{Numbering, numbering_starts, numbering_more, numbering_ends}
+use Rattle.setting_order.proofs.Numbering.{numbering_starts, numbering_more, numbering_ends}
 use Rattle.setting_order.proofs.number.Goals as goal
 
 pub loop-i-init : goal.loop-i-init

@@ -1,10 +1,7 @@
 -- `carried::number` meets its contract.
 -- Assumes nothing.
-use lib.ListN.{length-set}
 use Prim.Native.Nat.{◌-◌}
-use native.Mathlib.Omega.{arith}
-use borrow.Author.Rules.{rules}
-use Rattle.setting_order.proofs.Numbering.{Numbering, numbering_starts, numbering_more, numbering_ends}
+use Rattle.setting_order.proofs.Numbering.{Numbering}
 use Rattle.setting_order.proofs.number.Given as goal
 
 abbrev pub invariant-loop-i : goal.invariant-loop-i

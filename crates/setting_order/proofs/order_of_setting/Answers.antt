@@ -1,6 +1,5 @@
 -- The paper's case.
 -- Assumes nothing.
-use borrow.Author.Rules.{rules}
 use Rattle.wirings.specs.Nets.{wiring_of}
 use Rattle.setting_order.proofs.order_of_setting.Goals as goal
 

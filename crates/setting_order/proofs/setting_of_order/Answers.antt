@@ -1,6 +1,5 @@
 -- The paper's case.
 -- Assumes nothing.
-use borrow.Author.Rules.{rules}
 use Rattle.wirings.specs.Nets.{wiring_of}
 use Rattle.permutation.proofs.Permutations.{passes_permutation}
 use Rattle.setting_order.proofs.setting_of_order.Goals as goal

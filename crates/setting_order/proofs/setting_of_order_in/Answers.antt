@@ -3,7 +3,6 @@
 use Prim.Native.Nat.{ℕ, ◌*◌}
 use native.Mathlib.Omega.{arith}
 use lib.ListN.{length, length-replicate}
-use borrow.Author.Rules.{rules}
 use Rattle.network.specs.Log.{entry_words}
 use Rattle.counts.proofs.Most.{switches_few, entries_few}
 use Rattle.setting_order.proofs.setting_of_order_in.Goals as goal

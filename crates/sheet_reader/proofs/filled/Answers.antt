@@ -4,7 +4,6 @@ use native.Mathlib.Omega.{arith}
 use Prim.Native.Nat.{◌-◌}
 use lib.ListN.{length}
 use Rattle.sheets.proofs.Unpacking.{fill_none, fill_last}
-use borrow.Author.Rules.{rules}
 use Rattle.sheet_reader.proofs.filled.Goals as goal
 
 pub returns-then-k-eq0 : goal.returns-then-k-eq0

@@ -3,11 +3,9 @@
 use native.Mathlib.Omega.{arith}
 use mathlib.Core.Path.{sym, ◌∙◌}
 use lib.Seq.{length-take-le}
-use borrow.Author.Tests.{not-true, not-false}
 use Rattle.sheets.specs.Sheet.{numbers_for}
 use Rattle.rows.proofs.Rows.{numbers_fit}
 use Rattle.sheets.proofs.Asking.{body_stops, row_there, body_fill, body_surplus, body_done}
-use borrow.Author.Rules.{rules}
 use Rattle.numbers.specs.Numbers.{sevens}
 use Rattle.numbers.proofs.Numbers.{value_small}
 use Rattle.sheet_reader.proofs.read_body.Goals as goal

@@ -4,7 +4,6 @@ use mathlib.Core.Path.{refl, sym, ap, ◌∙◌}
 use Rattle.numbers.specs.Reading.{meaning}
 use Rattle.numbers.proofs.Numbers.{reads}
 use Rattle.sheets.proofs.Asking.{form_stops, form_wrong, places_stop, places_large, room_short, head_done}
-use borrow.Author.Rules.{rules}
 use Rattle.sheet_reader.proofs.read_head.Goals as goal
 
 pub returns-in_default : goal.returns-in_default

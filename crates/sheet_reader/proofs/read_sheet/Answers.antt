@@ -7,7 +7,6 @@ use lib.Seq.{length-take-le}
 use Rattle.answers.specs.Answers.{accepted}
 use Rattle.answers.specs.Buffers.{overlay}
 use Rattle.numbers.specs.Reading.{answer_of}
-use borrow.Author.Rules.{rules}
 use Rattle.sheet_reader.proofs.read_sheet.Goals as goal
 
 pub returns-in_default : goal.returns-in_default

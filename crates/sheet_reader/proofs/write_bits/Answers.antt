@@ -2,11 +2,8 @@
 -- Assumes nothing.
 use native.Mathlib.Omega.{arith}
 use mathlib.Core.Path.{sym}
-use Prim.Native.Nat.{◌-◌}
-use Rattle.answers.proofs.Putting.{Over, over_starts, over_more, over-ends}
-use Rattle.sheets.specs.Reading.{bits_in}
+use Rattle.answers.proofs.Putting.{over_starts, over_more, over-ends}
 use Rattle.sheets.proofs.Unpacking.{bits_length, bit_at}
-use borrow.Author.Rules.{rules}
 use Rattle.sheet_reader.proofs.write_bits.Goals as goal
 
 pub loop-i-init : goal.loop-i-init

@@ -1,12 +1,8 @@
 -- `sheet_reader::write_bits` meets its contract.
 -- Assumes nothing.
-use native.Mathlib.Omega.{arith}
-use mathlib.Core.Path.{sym}
 use Prim.Native.Nat.{◌-◌}
-use Rattle.answers.proofs.Putting.{Over, over_starts, over_more, over-ends}
+use Rattle.answers.proofs.Putting.{Over}
 use Rattle.sheets.specs.Reading.{bits_in}
-use Rattle.sheets.proofs.Unpacking.{bits_length, bit_at}
-use borrow.Author.Rules.{rules}
 use Rattle.sheet_reader.proofs.write_bits.Given as goal
 
 abbrev pub invariant-loop-i : goal.invariant-loop-i

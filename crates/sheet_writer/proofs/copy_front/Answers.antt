@@ -1,10 +1,8 @@
 -- `sheet_writer::copy_front` meets its contract.
 -- Assumes nothing.
-use borrow.Author.Rules.{rules}
 use native.Mathlib.Omega.{arith}
 use mathlib.Core.Path.{refl}
-use Prim.Native.Nat.{◌-◌}
-use Rattle.answers.proofs.Putting.{Over, over_starts, over_more, over-ends}
+use Rattle.answers.proofs.Putting.{over_starts, over_more, over-ends}
 use Rattle.sheet_writer.proofs.copy_front.Goals as goal
 
 pub loop-i-init : goal.loop-i-init

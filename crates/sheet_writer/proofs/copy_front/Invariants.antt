@@ -1,10 +1,7 @@
 -- `sheet_writer::copy_front` meets its contract.
 -- Assumes nothing.
-use borrow.Author.Rules.{rules}
-use native.Mathlib.Omega.{arith}
-use mathlib.Core.Path.{refl}
 use Prim.Native.Nat.{◌-◌}
-use Rattle.answers.proofs.Putting.{Over, over_starts, over_more, over-ends}
+use Rattle.answers.proofs.Putting.{Over}
 use Rattle.sheet_writer.proofs.copy_front.Given as goal
 
 abbrev pub invariant-loop-i : goal.invariant-loop-i

@@ -1,12 +1,11 @@
 -- `sheet_writer::fourteen` meets its contract.
 -- Assumes nothing.
-use borrow.Author.Rules.{rules}
 use native.Mathlib.Omega.{arith}
 use mathlib.Core.Path.{sym, ◌∙◌}
-use Prim.Native.Nat.{◌+◌, ◌-◌, ◌≤◌}
+use Prim.Native.Nat.{◌+◌, ◌-◌}
 use lib.ListN.{drop, length-take, length-drop}
 use Rattle.sheets.proofs.Unpacking.{is_bit_lem}
-use Rattle.sheet_writer.proofs.Writing.{Taking, taking_starts, taking_small, taking_more, taking_ends}
+use Rattle.sheet_writer.proofs.Writing.{taking_starts, taking_small, taking_more, taking_ends}
 use Rattle.sheet_writer.proofs.fourteen.Goals as goal
 
 pub loop-j-init : goal.loop-j-init

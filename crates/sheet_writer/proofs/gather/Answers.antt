@@ -1,10 +1,9 @@
 -- `sheet_writer::gather` meets its contract.
 -- Assumes nothing.
-use Prim.Native.Nat.{◌-◌, ◌*◌}
+use Prim.Native.Nat.{◌*◌}
 use native.Mathlib.Omega.{arith}
 use lib.ListN.{take, drop}
-use borrow.Author.Rules.{rules}
-use Rattle.answers.proofs.Putting.{Over, over_starts, each_more, each-ends}
+use Rattle.answers.proofs.Putting.{over_starts, each_more, each-ends}
 use Rattle.sheets.specs.Sheet.{bits_number, fourteens}
 use Rattle.sheets.proofs.Unpacking.{fourteens-length}
 use Rattle.sheet_writer.proofs.Writing.{fourteens-at}

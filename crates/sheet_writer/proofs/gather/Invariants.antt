@@ -1,13 +1,8 @@
 -- `sheet_writer::gather` meets its contract.
 -- Assumes nothing.
-use Prim.Native.Nat.{◌-◌, ◌*◌}
-use native.Mathlib.Omega.{arith}
-use lib.ListN.{take, drop}
-use borrow.Author.Rules.{rules}
-use Rattle.answers.proofs.Putting.{Over, over_starts, each_more, each-ends}
-use Rattle.sheets.specs.Sheet.{bits_number, fourteens}
-use Rattle.sheets.proofs.Unpacking.{fourteens-length}
-use Rattle.sheet_writer.proofs.Writing.{fourteens-at}
+use Prim.Native.Nat.{◌-◌}
+use Rattle.answers.proofs.Putting.{Over}
+use Rattle.sheets.specs.Sheet.{fourteens}
 use Rattle.sheet_writer.proofs.gather.Given as goal
 
 abbrev pub invariant-loop-j : goal.invariant-loop-j

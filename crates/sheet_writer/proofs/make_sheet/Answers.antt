@@ -9,7 +9,6 @@ use Rattle.sheets.specs.Sheet.{numbers_for}
 use Rattle.sheets.proofs.Unpacking.{fourteens-fit}
 use Rattle.sheets.proofs.Writing.{one_byte_lem}
 use Rattle.sheet_writer.proofs.Writing.{sheet_put, row_made}
-use borrow.Author.Rules.{rules}
 use Rattle.sheet_writer.proofs.make_sheet.Goals as goal
 
 pub put_number-b-requires : goal.put_number-b-requires

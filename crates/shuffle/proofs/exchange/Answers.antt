@@ -1,9 +1,8 @@
 -- `shuffle::exchange` meets its contract.
 -- Assumes nothing.
 use borrow.Author.Rules.{rules}
-use Prim.Native.Nat.{◌-◌}
-use lib.ListN.{length, length-set}
-use Rattle.shuffle.proofs.Steps.{Stepping, stepping_starts, stepping_more, stepping_ends}
+use lib.ListN.{length-set}
+use Rattle.shuffle.proofs.Steps.{stepping_starts, stepping_more, stepping_ends}
 use Rattle.shuffle.proofs.exchange.Goals as goal
 
 pub loop-i-init : goal.loop-i-init

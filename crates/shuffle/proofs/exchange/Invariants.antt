@@ -1,9 +1,8 @@
 -- `shuffle::exchange` meets its contract.
 -- Assumes nothing.
-use borrow.Author.Rules.{rules}
 use Prim.Native.Nat.{◌-◌}
-use lib.ListN.{length, length-set}
-use Rattle.shuffle.proofs.Steps.{Stepping, stepping_starts, stepping_more, stepping_ends}
+use lib.ListN.{length}
+use Rattle.shuffle.proofs.Steps.{Stepping}
 use Rattle.shuffle.proofs.exchange.Given as goal
 
 abbrev pub invariant-loop-i : goal.invariant-loop-i

@@ -1,10 +1,8 @@
 -- `shuffle::number` meets its contract.
 -- Assumes nothing.
-use borrow.Author.Rules.{rules}
 use mathlib.Core.Path.{◌≡◌}
-use Prim.Native.Nat.{◌-◌}
 use native.Mathlib.Omega.{arith}
-use Rattle.shuffle.proofs.Steps.{Numbering, numbering_starts, numbering_more}
+use Rattle.shuffle.proofs.Steps.{numbering_starts, numbering_more}
 use Rattle.shuffle.proofs.number.Goals as goal
 
 pub loop-i-init : goal.loop-i-init

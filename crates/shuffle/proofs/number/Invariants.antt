@@ -1,10 +1,7 @@
 -- `shuffle::number` meets its contract.
 -- Assumes nothing.
-use borrow.Author.Rules.{rules}
-use mathlib.Core.Path.{◌≡◌}
 use Prim.Native.Nat.{◌-◌}
-use native.Mathlib.Omega.{arith}
-use Rattle.shuffle.proofs.Steps.{Numbering, numbering_starts, numbering_more}
+use Rattle.shuffle.proofs.Steps.{Numbering}
 use Rattle.shuffle.proofs.number.Given as goal
 
 abbrev pub invariant-loop-i : goal.invariant-loop-i

@@ -1,6 +1,5 @@
 -- `shuffle::partner_of` meets its contract.
 -- Assumes nothing.
-use borrow.Author.Rules.{rules}
 use mathlib.Core.Path.{ap}
 use native.Mathlib.Omega.{arith}
 use Rattle.shuffle.specs.Shuffled.{partner}

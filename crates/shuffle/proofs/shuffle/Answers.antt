@@ -5,7 +5,6 @@ use native.Mathlib.Omega.{arith}
 use lib.ListN.{length-take}
 use lib.Seq.{length-take-le}
 use Rattle.shuffle.proofs.Outcomes.{shuffle_large, shuffle_short, shuffle_out, shuffle_done}
-use borrow.Author.Rules.{rules}
 use Rattle.shuffle.proofs.shuffle.Goals as goal
 
 pub returns-then-n-gt-MOST_PLACES : goal.returns-then-n-gt-MOST_PLACES

@@ -1,10 +1,7 @@
 -- `shuffle_fair::choose` meets its contract.
 -- Assumes nothing.
-use Prim.Native.Nat.{◌-◌}
 use native.Mathlib.Omega.{arith}
-use lib.ListN.{length}
-use Rattle.shuffle_fair.proofs.Choosing.{Choosing, choosing_starts, choosing_more, choosing_ends, choosing_fails}
-use borrow.Author.Rules.{rules}
+use Rattle.shuffle_fair.proofs.Choosing.{choosing_starts, choosing_more, choosing_ends, choosing_fails}
 use Rattle.shuffle_fair.proofs.choose.Goals as goal
 
 pub loop-i-init : goal.loop-i-init

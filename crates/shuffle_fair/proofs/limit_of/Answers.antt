@@ -2,7 +2,6 @@
 -- Assumes nothing.
 use native.Mathlib.Omega.{arith}
 use Rattle.shuffle_fair.proofs.Fair.{limit_within}
-use borrow.Author.Rules.{rules}
 use Rattle.shuffle_fair.proofs.limit_of.Goals as goal
 
 pub overflow_mul-result : goal.overflow_mul-result

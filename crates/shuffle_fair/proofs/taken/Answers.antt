@@ -2,7 +2,6 @@
 -- Assumes nothing.
 use native.Mathlib.Omega.{arith}
 use Rattle.shuffle_fair.proofs.Choosing.{word_taken, word_skipped}
-use borrow.Author.Rules.{rules}
 use Rattle.shuffle_fair.proofs.taken.Goals as goal
 
 pub returns-then-wide-limit_of : goal.returns-then-wide-limit_of

@@ -1,6 +1,6 @@
 -- `tally::same_words` meets its contract.
 -- Assumes nothing.
-use Rattle.std.proofs.Common.{◌≡◌, ℕ, ◌-◌, ◌<◌, ◌≤◌, List, length, get_or, refl, ap, arith, ext_get_or, rules}
+use Rattle.std.proofs.Common.{ℕ, List, length, get_or, refl, ap, arith, ext_get_or}
 use Rattle.tally.proofs.Same.{further}
 use Rattle.tally.proofs.same_words.Goals as goal
 

@@ -1,6 +1,5 @@
 -- `tally::tallied` meets its contract.
 -- Assumes nothing.
-use Rattle.std.proofs.Common.{rules}
 use Rattle.tally.proofs.Same.{counts_on}
 use Rattle.tally.proofs.tallied.Goals as goal
 

@@ -1,7 +1,7 @@
 -- `tally::widened` meets its contract.
 -- Assumes nothing.
-use Rattle.std.proofs.Common.{◌-◌, ◌≤◌, get_or, arith, rules}
-use Rattle.tally.proofs.First.{First, first_none, first_more, first_all}
+use Rattle.std.proofs.Common.{arith}
+use Rattle.tally.proofs.First.{first_none, first_more, first_all}
 use Rattle.tally.proofs.widened.Goals as goal
 
 pub loop-i-init : goal.loop-i-init

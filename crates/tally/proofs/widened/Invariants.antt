@@ -1,7 +1,7 @@
 -- `tally::widened` meets its contract.
 -- Assumes nothing.
-use Rattle.std.proofs.Common.{◌-◌, ◌≤◌, get_or, arith, rules}
-use Rattle.tally.proofs.First.{First, first_none, first_more, first_all}
+use Rattle.std.proofs.Common.{◌-◌, ◌≤◌, get_or}
+use Rattle.tally.proofs.First.{First}
 use Rattle.tally.proofs.widened.Given as goal
 
 abbrev pub invariant-loop-i : goal.invariant-loop-i

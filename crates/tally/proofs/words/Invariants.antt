@@ -1,8 +1,8 @@
 -- `tally::words` meets its contract.
 -- Assumes nothing.
-use Rattle.std.proofs.Common.{◌≡◌, ◌+◌, ◌-◌, ◌≤◌, refl, arith, rules}
+use Rattle.std.proofs.Common.{◌≡◌, ◌+◌, ◌-◌, ◌≤◌}
 use Rattle.tally.specs.Tallies.{after}
-use Rattle.tally.proofs.First.{First, first_none, first_more, first_all, after_more}
+use Rattle.tally.proofs.First.{First}
 use Rattle.tally.proofs.words.Given as goal
 
 abbrev pub invariant-loop-i : goal.invariant-loop-i

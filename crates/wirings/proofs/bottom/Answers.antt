@@ -1,7 +1,6 @@
 -- The bottom half by the network's spacing.
 -- Assumes nothing.
 use native.Mathlib.Omega.{arith}
-use borrow.Author.Rules.{rules}
 use Rattle.wirings.proofs.Halves.{fewer, is_bottom, bottom_starts}
 use Rattle.wirings.proofs.bottom.Goals as goal
 

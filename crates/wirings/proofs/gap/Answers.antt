@@ -1,7 +1,6 @@
 -- Each wiring's own distance.
 -- Assumes nothing.
 use native.Mathlib.Omega.{arith}
-use borrow.Author.Rules.{rules}
 use Rattle.wirings.specs.Nets.{gap_of}
 use Rattle.wirings.proofs.gap.Goals as goal
 

@@ -1,7 +1,6 @@
 -- Each wiring's own distance.
 -- Assumes nothing.
 use native.Mathlib.Omega.{arith}
-use borrow.Author.Rules.{rules}
 use Rattle.wirings.specs.Nets.{step_of}
 use Rattle.wirings.proofs.step.Goals as goal
 

@@ -1,7 +1,6 @@
 -- The top half by the network's spacing.
 -- Assumes nothing.
 use native.Mathlib.Omega.{arith}
-use borrow.Author.Rules.{rules}
 use Rattle.wirings.proofs.Halves.{fewer, is_top}
 use Rattle.wirings.proofs.top.Goals as goal
 

@@ -3,7 +3,6 @@
 use mathlib.Core.Path.{◌≡◌}
 use Prim.Native.Nat.{◌-◌}
 use lib.ListN.{length}
-use borrow.Author.Rules.{rules}
 use Rattle.check_commands.proofs.plain.copy.Given as goal
 
 abbrev pub invariant-loop-j : goal.invariant-loop-j

@@ -1,6 +1,6 @@
 -- `check_control::nets::counts` meets its contract.
 -- Assumes nothing.
-use Rattle.std.proofs.Common.{◌-◌, ◌≤◌, rules}
+use Rattle.std.proofs.Common.{◌-◌, ◌≤◌}
 use Rattle.check_control.proofs.nets.counts.Given as goal
 
 abbrev pub invariant-loop-m : goal.invariant-loop-m

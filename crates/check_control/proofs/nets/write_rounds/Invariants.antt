@@ -1,6 +1,6 @@
 -- `check_control::nets::write_rounds` meets its contract.
 -- Assumes nothing.
-use Rattle.std.proofs.Common.{◌-◌, ◌≤◌, rules}
+use Rattle.std.proofs.Common.{◌-◌, ◌≤◌}
 use Rattle.check_control.proofs.nets.write_rounds.Given as goal
 
 abbrev pub invariant-loop-i : goal.invariant-loop-i

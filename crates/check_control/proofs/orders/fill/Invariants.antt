@@ -1,6 +1,6 @@
 -- `check_control::orders::fill` meets its contract.
 -- Assumes nothing.
-use Rattle.std.proofs.Common.{◌-◌, ◌≤◌, rules}
+use Rattle.std.proofs.Common.{◌-◌, ◌≤◌}
 use Rattle.check_control.proofs.orders.fill.Given as goal
 
 abbrev pub invariant-loop-q : goal.invariant-loop-q

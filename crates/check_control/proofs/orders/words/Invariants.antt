@@ -1,6 +1,6 @@
 -- `check_control::orders::words` meets its contract.
 -- Assumes nothing.
-use Rattle.std.proofs.Common.{◌-◌, ◌≤◌, rules}
+use Rattle.std.proofs.Common.{◌-◌, ◌≤◌}
 use Rattle.check_control.proofs.orders.words.Given as goal
 
 abbrev pub invariant-loop-i : goal.invariant-loop-i

@@ -1,6 +1,6 @@
 -- `check_control::setter::set` meets its contract.
 -- Assumes nothing.
-use Rattle.std.proofs.Common.{◌-◌, ◌≤◌, rules}
+use Rattle.std.proofs.Common.{◌-◌, ◌≤◌}
 use Rattle.check_control.proofs.plain_setter.set.Given as goal
 
 abbrev pub invariant-loop-j : goal.invariant-loop-j

@@ -1,6 +1,6 @@
 -- `check_control::setter::set_net` meets its contract.
 -- Assumes nothing.
-use Rattle.std.proofs.Common.{◌-◌, ◌≤◌, rules}
+use Rattle.std.proofs.Common.{◌-◌, ◌≤◌}
 use Rattle.check_control.proofs.plain_setter.set_net.Given as goal
 
 abbrev pub invariant-loop-i : goal.invariant-loop-i

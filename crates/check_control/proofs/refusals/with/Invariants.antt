@@ -1,6 +1,6 @@
 -- `check_control::refusals::with` meets its contract.
 -- Assumes nothing.
-use Rattle.std.proofs.Common.{◌-◌, ◌≤◌, rules}
+use Rattle.std.proofs.Common.{◌-◌, ◌≤◌}
 use Rattle.check_control.proofs.refusals.with.Given as goal
 
 abbrev pub invariant-loop-i : goal.invariant-loop-i

@@ -1,6 +1,5 @@
 -- `check_list::step::raise` meets its contract.
 -- Assumes nothing.
-use borrow.Author.Rules.{rules}
 use Prim.Native.Nat.{◌-◌, ◌≤◌}
 use Rattle.check_list.proofs.step.raise.Given as goal
 

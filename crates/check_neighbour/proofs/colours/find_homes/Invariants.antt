@@ -1,6 +1,6 @@
 -- `check_neighbour::colours::find_homes` meets its contract.
 -- Assumes nothing.
-use Rattle.std.proofs.Common.{◌-◌, ◌≤◌, rules}
+use Rattle.std.proofs.Common.{◌-◌, ◌≤◌}
 use Rattle.check_neighbour.proofs.colours.find_homes.Given as goal
 
 abbrev pub invariant-loop-p : goal.invariant-loop-p

@@ -1,6 +1,6 @@
 -- `check_neighbour::colours::ring` meets its contract.
 -- Assumes nothing.
-use Rattle.std.proofs.Common.{◌-◌, ◌≤◌, rules}
+use Rattle.std.proofs.Common.{◌-◌, ◌≤◌}
 use Rattle.check_neighbour.proofs.colours.ring.Given as goal
 
 abbrev pub invariant-loop-turn : goal.invariant-loop-turn

@@ -1,6 +1,6 @@
 -- `check_neighbour::colours::row_of` meets its contract.
 -- Assumes nothing.
-use Rattle.std.proofs.Common.{◌-◌, ◌≤◌, rules}
+use Rattle.std.proofs.Common.{◌-◌, ◌≤◌}
 use Rattle.check_neighbour.proofs.colours.row_of.Given as goal
 
 abbrev pub invariant-loop-i : goal.invariant-loop-i

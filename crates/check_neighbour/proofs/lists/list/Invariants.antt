@@ -1,6 +1,6 @@
 -- `check_neighbour::lists::list` meets its contract.
 -- Assumes nothing.
-use Rattle.std.proofs.Common.{◌-◌, ◌≤◌, rules}
+use Rattle.std.proofs.Common.{◌-◌, ◌≤◌}
 use Rattle.check_neighbour.proofs.lists.list.Given as goal
 
 abbrev pub invariant-loop-turn : goal.invariant-loop-turn

@@ -1,6 +1,6 @@
 -- `check_neighbour::logs::write_steps` meets its contract.
 -- Assumes nothing.
-use Rattle.std.proofs.Common.{◌-◌, ◌≤◌, rules}
+use Rattle.std.proofs.Common.{◌-◌, ◌≤◌}
 use Rattle.check_neighbour.proofs.logs.write_steps.Given as goal
 
 abbrev pub invariant-loop-j : goal.invariant-loop-j

@@ -1,6 +1,6 @@
 -- `check_neighbour::logs::write_switches` meets its contract.
 -- Assumes nothing.
-use Rattle.std.proofs.Common.{◌-◌, ◌≤◌, rules}
+use Rattle.std.proofs.Common.{◌-◌, ◌≤◌}
 use Rattle.check_neighbour.proofs.logs.write_switches.Given as goal
 
 abbrev pub invariant-loop-i : goal.invariant-loop-i

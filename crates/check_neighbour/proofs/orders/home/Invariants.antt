@@ -1,6 +1,6 @@
 -- `check_neighbour::orders::home` meets its contract.
 -- Assumes nothing.
-use Rattle.std.proofs.Common.{◌-◌, ◌≤◌, rules}
+use Rattle.std.proofs.Common.{◌-◌, ◌≤◌}
 use Rattle.check_neighbour.proofs.orders.home.Given as goal
 
 abbrev pub invariant-loop-q : goal.invariant-loop-q

@@ -1,6 +1,6 @@
 -- `check_neighbour::orders::order` meets its contract.
 -- Assumes nothing.
-use Rattle.std.proofs.Common.{◌≤◌, rules}
+use Rattle.std.proofs.Common.{◌≤◌}
 use Rattle.check_neighbour.proofs.orders.order.Given as goal
 
 abbrev pub invariant-loop-left : goal.invariant-loop-left

@@ -1,6 +1,6 @@
 -- `check_neighbour::replay::by_words` meets its contract.
 -- Assumes nothing.
-use Rattle.std.proofs.Common.{◌-◌, ◌≤◌, rules}
+use Rattle.std.proofs.Common.{◌-◌, ◌≤◌}
 use Rattle.check_neighbour.proofs.replay.by_words.Given as goal
 
 abbrev pub invariant-loop-e : goal.invariant-loop-e

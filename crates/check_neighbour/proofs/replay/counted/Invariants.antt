@@ -1,6 +1,6 @@
 -- `check_neighbour::replay::counted` meets its contract.
 -- Assumes nothing.
-use Rattle.std.proofs.Common.{◌-◌, ◌≤◌, rules}
+use Rattle.std.proofs.Common.{◌-◌, ◌≤◌}
 use Rattle.check_neighbour.proofs.replay.counted.Given as goal
 
 abbrev pub invariant-loop-e : goal.invariant-loop-e

@@ -1,6 +1,6 @@
 -- `check_permutation::chains::all` meets its contract.
 -- Assumes nothing.
-use Rattle.std.proofs.Common.{◌-◌, ◌≤◌, rules}
+use Rattle.std.proofs.Common.{◌-◌, ◌≤◌}
 use Rattle.check_permutation.proofs.chains.all.Given as goal
 
 abbrev pub invariant-loop-k : goal.invariant-loop-k

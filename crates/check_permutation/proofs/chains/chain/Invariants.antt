@@ -1,6 +1,6 @@
 -- `check_permutation::chains::chain` meets its contract.
 -- Assumes nothing.
-use Rattle.std.proofs.Common.{◌-◌, ◌≤◌, rules}
+use Rattle.std.proofs.Common.{◌-◌, ◌≤◌}
 use Rattle.check_permutation.proofs.chains.chain.Given as goal
 
 abbrev pub invariant-loop-k : goal.invariant-loop-k

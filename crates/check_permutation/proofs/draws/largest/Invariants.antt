@@ -1,6 +1,6 @@
 -- `check_permutation::draws::largest` meets its contract.
 -- Assumes nothing.
-use Rattle.std.proofs.Common.{◌-◌, ◌≤◌, rules}
+use Rattle.std.proofs.Common.{◌-◌, ◌≤◌}
 use Rattle.check_permutation.proofs.draws.largest.Given as goal
 
 abbrev pub invariant-loop-n : goal.invariant-loop-n

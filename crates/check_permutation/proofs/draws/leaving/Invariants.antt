@@ -1,6 +1,6 @@
 -- `check_permutation::draws::leaving` meets its contract.
 -- Assumes nothing.
-use Rattle.std.proofs.Common.{◌-◌, ◌≤◌, rules}
+use Rattle.std.proofs.Common.{◌-◌, ◌≤◌}
 use Rattle.check_permutation.proofs.draws.leaving.Given as goal
 
 abbrev pub invariant-loop-word : goal.invariant-loop-word

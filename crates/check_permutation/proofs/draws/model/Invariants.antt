@@ -1,6 +1,6 @@
 -- `check_permutation::draws::model` meets its contract.
 -- Assumes nothing.
-use Rattle.std.proofs.Common.{◌-◌, ◌≤◌, rules}
+use Rattle.std.proofs.Common.{◌-◌, ◌≤◌}
 use Rattle.check_permutation.proofs.draws.model.Given as goal
 
 abbrev pub invariant-loop-d : goal.invariant-loop-d

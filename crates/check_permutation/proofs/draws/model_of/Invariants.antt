@@ -1,6 +1,6 @@
 -- `check_permutation::draws::model_of` meets its contract.
 -- Assumes nothing.
-use Rattle.std.proofs.Common.{◌-◌, ◌≤◌, rules}
+use Rattle.std.proofs.Common.{◌-◌, ◌≤◌}
 use Rattle.check_permutation.proofs.draws.model_of.Given as goal
 
 abbrev pub invariant-loop-x : goal.invariant-loop-x

@@ -1,6 +1,6 @@
 -- `check_permutation::draws::rest` meets its contract.
 -- Assumes nothing.
-use Rattle.std.proofs.Common.{◌-◌, ◌≤◌, rules}
+use Rattle.std.proofs.Common.{◌-◌, ◌≤◌}
 use Rattle.check_permutation.proofs.draws.rest.Given as goal
 
 abbrev pub invariant-loop-k : goal.invariant-loop-k

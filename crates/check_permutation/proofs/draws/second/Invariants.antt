@@ -1,6 +1,6 @@
 -- `check_permutation::draws::second` meets its contract.
 -- Assumes nothing.
-use Rattle.std.proofs.Common.{◌-◌, ◌≤◌, length, rules}
+use Rattle.std.proofs.Common.{◌-◌, ◌≤◌, length}
 use Rattle.check_permutation.proofs.draws.second.Given as goal
 
 abbrev pub invariant-loop-k : goal.invariant-loop-k

@@ -1,6 +1,6 @@
 -- `check_permutation::numbers::of_permutation` meets its contract.
 -- Assumes nothing.
-use Rattle.std.proofs.Common.{◌+◌, ◌-◌, ◌≤◌, rules}
+use Rattle.std.proofs.Common.{◌+◌, ◌-◌, ◌≤◌}
 use Rattle.check_permutation.proofs.numbers.of_permutation.Given as goal
 
 abbrev pub invariant-loop-number : goal.invariant-loop-number

@@ -1,6 +1,6 @@
 -- `check_permutation::plain::combine` meets its contract.
 -- Assumes nothing.
-use Rattle.std.proofs.Common.{◌-◌, ◌≤◌, rules}
+use Rattle.std.proofs.Common.{◌-◌, ◌≤◌}
 use Rattle.check_permutation.proofs.plain.combine.Given as goal
 
 abbrev pub invariant-loop-i : goal.invariant-loop-i

@@ -1,6 +1,6 @@
 -- `check_permutation::plain::counted` meets its contract.
 -- Assumes nothing.
-use Rattle.std.proofs.Common.{◌-◌, ◌≤◌, rules}
+use Rattle.std.proofs.Common.{◌-◌, ◌≤◌}
 use Rattle.check_permutation.proofs.plain.counted.Given as goal
 
 abbrev pub invariant-loop-k : goal.invariant-loop-k

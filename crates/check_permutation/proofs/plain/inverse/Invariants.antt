@@ -1,6 +1,6 @@
 -- `check_permutation::plain::inverse` meets its contract.
 -- Assumes nothing.
-use Rattle.std.proofs.Common.{◌-◌, ◌≤◌, rules}
+use Rattle.std.proofs.Common.{◌-◌, ◌≤◌}
 use Rattle.check_permutation.proofs.plain.inverse.Given as goal
 
 abbrev pub invariant-loop-v : goal.invariant-loop-v

@@ -1,6 +1,6 @@
 -- `check_replay::entries::run` meets its contract.
 -- Assumes nothing.
-use Rattle.std.proofs.Common.{◌-◌, ◌≤◌, rules}
+use Rattle.std.proofs.Common.{◌-◌, ◌≤◌}
 use Rattle.check_replay.proofs.entries.run.Given as goal
 
 abbrev pub invariant-loop-e : goal.invariant-loop-e

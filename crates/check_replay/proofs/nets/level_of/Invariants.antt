@@ -1,6 +1,6 @@
 -- `check_replay::nets::level_of` meets its contract.
 -- Assumes nothing.
-use Rattle.std.proofs.Common.{◌-◌, ◌≤◌, rules}
+use Rattle.std.proofs.Common.{◌-◌, ◌≤◌}
 use Rattle.check_replay.proofs.nets.level_of.Given as goal
 
 abbrev pub invariant-loop-level : goal.invariant-loop-level

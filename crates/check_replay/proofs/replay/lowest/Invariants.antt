@@ -1,6 +1,6 @@
 -- `check_replay::replay::lowest` meets its contract.
 -- Assumes nothing.
-use Rattle.std.proofs.Common.{◌-◌, ◌≤◌, rules}
+use Rattle.std.proofs.Common.{◌-◌, ◌≤◌}
 use Rattle.check_replay.proofs.replay.lowest.Given as goal
 
 abbrev pub invariant-loop-i : goal.invariant-loop-i

@@ -1,6 +1,6 @@
 -- `check_replay::replay::step5` meets its contract.
 -- Assumes nothing.
-use Rattle.std.proofs.Common.{◌-◌, ◌≤◌, rules}
+use Rattle.std.proofs.Common.{◌-◌, ◌≤◌}
 use Rattle.check_replay.proofs.replay.step5.Given as goal
 
 abbrev pub invariant-loop-p : goal.invariant-loop-p

@@ -3,7 +3,6 @@
 use mathlib.Core.Path.{sym}
 use lib.Seq.{length-take-le}
 use borrow.Author.Rules.{rules}
-use Rattle.check_sheets.proofs.canonical_trips.set.Statement.{statement}
 use Rattle.check_sheets.proofs.canonical_trips.set.Goals as goal
 
 pub slice_bounds-control_bits-end : goal.slice_bounds-control_bits-end

@@ -1,8 +1,6 @@
 -- `check_sheets::canonical::trips` meets its contract.
 -- Assumes nothing.
-use borrow.Author.Rules.{rules}
 use Prim.Native.Nat.{◌-◌, ◌≤◌}
-use Rattle.check_sheets.proofs.canonical_trips.trips.Statement.{statement}
 use Rattle.check_sheets.proofs.canonical_trips.trips.Given as goal
 
 abbrev pub invariant-loop-n : goal.invariant-loop-n

@@ -1,6 +1,5 @@
 -- `check_sheets::plain::first_bad` meets its contract.
 -- Assumes nothing.
-use borrow.Author.Rules.{rules}
 use Prim.Native.Nat.{◌-◌, ◌≤◌}
 use lib.ListN.{length}
 use Rattle.check_sheets.proofs.plain.first_bad.Given as goal

@@ -1,6 +1,5 @@
 -- `check_sheets::plain::switches` meets its contract.
 -- Assumes nothing.
-use borrow.Author.Rules.{rules}
 use Prim.Native.Nat.{◌-◌, ◌≤◌}
 use Rattle.check_sheets.proofs.plain.switches.Given as goal
 

@@ -1,6 +1,5 @@
 -- `check_sheets::plain::zero` meets its contract.
 -- Assumes nothing.
-use borrow.Author.Rules.{rules}
 use Prim.Native.Nat.{◌-◌}
 use lib.ListN.{length}
 use Rattle.check_sheets.proofs.plain.zero.Given as goal

@@ -1,6 +1,5 @@
 -- `check_wirings::refusals::all` meets its contract.
 -- Assumes nothing.
-use borrow.Author.Rules.{rules}
 use Prim.Native.Nat.{◌-◌, ◌≤◌}
 use Rattle.check_wirings.proofs.refusals.all.Given as goal
 

@@ -2,7 +2,6 @@
 -- Assumes nothing.
 use mathlib.Core.Path.{◌∙◌}
 use Rattle.records.proofs.Replies.{first_stops, combine_second, passed_record, combine_unlike, combine_done}
-use borrow.Author.Rules.{rules}
 use Rattle.records.proofs.Permutation.combine.Goals as goal
 
 pub returns-then-asked-ne0 : goal.returns-then-asked-ne0

@@ -2,7 +2,6 @@
 -- Assumes nothing.
 use mathlib.Core.Path.{◌∙◌}
 use Rattle.records.proofs.Replies.{asking_back}
-use borrow.Author.Rules.{rules}
 use Rattle.records.proofs.Permutation.fixed_points.Goals as goal
 
 pub returns : goal.returns

@@ -2,7 +2,6 @@
 -- Assumes nothing.
 use mathlib.Core.Path.{◌∙◌}
 use Rattle.records.proofs.Replies.{list_large, list_bad, list_done}
-use borrow.Author.Rules.{rules}
 use Rattle.records.proofs.Permutation.from_list.Goals as goal
 
 pub returns-then-list-gt-MOST_PLACES : goal.returns-then-list-gt-MOST_PLACES

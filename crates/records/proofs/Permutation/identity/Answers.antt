@@ -2,7 +2,6 @@
 -- Assumes nothing.
 use mathlib.Core.Path.{◌∙◌}
 use Rattle.records.proofs.Replies.{identity_large, identity-done}
-use borrow.Author.Rules.{rules}
 use Rattle.records.proofs.Permutation.identity.Goals as goal
 
 pub returns-then-n-gt-MOST_PLACES : goal.returns-then-n-gt-MOST_PLACES

@@ -3,7 +3,6 @@
 use mathlib.Core.Path.{◌∙◌}
 use mathlib.Core.List.{[]}
 use Rattle.records.proofs.Replies.{first_stops, passed_record, accepted_record, replies_accepted}
-use borrow.Author.Rules.{rules}
 use Rattle.records.proofs.Permutation.inverse.Goals as goal
 
 pub returns-then-asked-ne0 : goal.returns-then-asked-ne0
