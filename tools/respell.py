@@ -4,8 +4,10 @@
 usage: tools/respell.py [--check] [FOLDER]
 
 It reads the names that the .antt files of crates/ declare, and turns each whole word that is one of them: in .antt files, in the
-clauses and comments of .rt files, and in code spans of .md files. A lemma that would have its function's name gets `_lem`. What Rattle makes of a function (the names
-behind `goal.`, `tie.`, `lts.`, `reads.`) stays, and so do names that only a proof of one function declares with a dash.
+clauses and comments of .rt files, and in code spans of .md files. A lemma that would have its function's name gets `_lem`. What Rattle
+makes of a function (the names
+behind `goal.`, `tie.`, `lts.`, `reads.`) stays, and so do names that only a proof of one function declares with a dash. docs/CHANGES.md
+keeps the names that it tells of.
 --check writes nothing and prints the table. It stops where two names would fall together.
 """
 
