@@ -5,6 +5,7 @@
 ghost use Rattle.std.specs.Prelude.{◌≡◌, [], ◌∷◌, ◌+◌, ◌*◌, ◌≤◌, ◌<◌, length};
 ghost use Rattle.answers.specs.Buffers.{overlay};
 ghost use Rattle.network.specs.Log.{entry, entry_words, words, entry_at};
+ghost use Rattle.entry_log.specs.Kinds.{number_of};
 ghost use Rattle.entry_log.specs.Packed.{packed, unpacked};
 
 // How many words an entry has.
@@ -15,20 +16,40 @@ pub const MOST_SET_WORDS: usize = ENTRY_WORDS * counts::MOST_ENTRIES;
 
 pub const MOST_MOVE_WORDS: usize = ENTRY_WORDS * counts::MOST_SWITCHES;
 
+// What was done: a step of the setter (01: steps of the setter), or a switch of mix and return. The number is 01's.
+#[derive(Clone, Copy, PartialEq, Eq, Debug)]
+pub enum Kind {
+    Value = 1, // g is the value at f
+    Associate = 2, // s is the place that holds g's associate
+    Settle = 3, // the bit of s's pair; the pair is marked
+    InputSwitches = 4, // they act, and the marks are cleared
+    Split = 5, // each value keeps its pair, its trail gains the side
+    OutputSwitches = 6, // their bits; they act, and each value is again what it was
+    Exchange = 7, // of two blocks
+}
+
 // Writes the log's entry number e.
-pub fn write_entry(log: &mut [u16], e: usize, kind: u16, first: usize, second: usize, bit: usize)
+pub fn write_entry(log: &mut [u16], e: usize, kind: Kind, first: usize, second: usize, bit: usize)
     requires { (entry_words * (e + 1) ≤ length log.old) × (first < 65536) × (second < 65536) × (bit < 65536) }
-    ensures { log.new ≡ overlay log.old (entry_words * e) (words (entry kind first second bit ∷ [])) }
+    ensures { log.new ≡ overlay log.old (entry_words * e) (words (entry (number_of kind) first second bit ∷ [])) }
 {
-    write_packed(log, e, packed(wide(kind), first, second, bit));
+    write_packed(log, e, packed(kind, first, second, bit));
 }
 
 // An entry as one number. Entries that are evenly apart are packed once and counted on, so that each is one store.
-pub fn packed(kind: usize, first: usize, second: usize, bit: usize) -> usize
-    requires { (kind < 65536) × (first < 65536) × (second < 65536) × (bit < 65536) }
-    ensures { result ≡ packed kind first second bit }
+pub fn packed(kind: Kind, first: usize, second: usize, bit: usize) -> usize
+    requires { (first < 65536) × (second < 65536) × (bit < 65536) }
+    ensures { result ≡ packed (number_of kind) first second bit }
 {
-    kind + first * 65536 + second * 4294967296 + bit * 281474976710656
+    kind as usize + packed_apart(first, second, bit)
+}
+
+// How far apart two packed entries of one kind are, whose numbers are so far apart.
+pub fn packed_apart(first: usize, second: usize, bit: usize) -> usize
+    requires { (first < 65536) × (second < 65536) × (bit < 65536) }
+    ensures { result ≡ packed 0 first second bit }
+{
+    first * 65536 + second * 4294967296 + bit * 281474976710656
 }
 
 // Writes the log's entry number e, which is packed.
@@ -48,18 +69,12 @@ pub fn first_of(log: &[u16], e: usize) -> usize
     requires { entry_words * (e + 1) ≤ length log.now }
     ensures { result ≡ (entry_at log.now e).first }
 {
-    wide(log[ENTRY_WORDS * e + 1])
+    usize::from(log[ENTRY_WORDS * e + 1])
 }
 
 pub fn second_of(log: &[u16], e: usize) -> usize
     requires { entry_words * (e + 1) ≤ length log.now }
     ensures { result ≡ (entry_at log.now e).second }
 {
-    wide(log[ENTRY_WORDS * e + 2])
-}
-
-fn wide(x: u16) -> usize
-    ensures { result ≡ x }
-{
-    x as usize
+    usize::from(log[ENTRY_WORDS * e + 2])
 }
