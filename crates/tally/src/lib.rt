@@ -5,69 +5,48 @@ ghost use Rattle.std.specs.Prelude.{◌≡◌, ◌+◌, ◌%◌, ◌^◌, ◌≤
 ghost use Rattle.tally.specs.Tallies.{nothing, one, counted, block_bytes, random, scrambled, after, Holds};
 
 use answers::Answer;
+use std::fmt;
 
 // How many outcomes were compared, and how many of them were equal.
-#[derive(Clone, Copy)]
+#[derive(Clone, Copy, Debug)]
 pub struct Tally {
     pub compared: u64,
     pub equal: u64,
 }
 
-pub fn none() -> Tally
-    ensures { result ≡ nothing }
-{
-    Tally {
-        compared: 0,
-        equal: 0,
-    }
-}
-
-fn one(same: bool) -> u64
-    ensures { result ≡ one same }
-{
-    if same { 1 } else { 0 }
-}
-
-pub fn tallied(t: Tally, same: bool) -> Tally
-    ensures { result ≡ counted t same }
-{
-    Tally {
-        compared: std::num::wrapping_add_u64(t.compared, 1),
-        equal: std::num::wrapping_add_u64(t.equal, one(same)),
-    }
-}
-
-// Whether two answers are the same: true is said of such, and only of such.
-pub fn same_answer(a: Answer, b: Answer) -> bool
-    ensures { (result ≡ true → a ≡ b) × (a ≡ b → result ≡ true) }
-{
-    if a.number != b.number {
-        return false;
-    }
-    if a.place != b.place {
-        return false;
-    }
-    if a.count != b.count {
-        return false;
-    }
-    true
-}
-
-// Whether two slices hold the same words: true is said of such, and only of such.
-pub fn same_words(a: &[u16], b: &[u16]) -> bool
-    ensures { (result ≡ true → a.now ≡ b.now) × (a.now ≡ b.now → result ≡ true) }
-{
-    if a.len() != b.len() {
-        return false;
-    }
-    let mut i = 0;
-    while i < a.len() {
-        if a[i] != b[i] {
-            return false;
+impl Tally {
+    pub fn new() -> Self
+        ensures { result ≡ nothing }
+    {
+        Tally {
+            compared: 0,
+            equal: 0,
         }
-        i += 1;
     }
-    true
+
+    // One more was compared, and it was equal or not.
+    pub fn count(&mut self, same: bool)
+        ensures { self.new ≡ counted self.old same }
+    {
+        self.compared = self.compared.wrapping_add(1);
+        self.equal = self.equal.wrapping_add(u64::from(same));
+    }
+
+    // One more was compared, and the two were equal or not.
+    pub fn compare<T: PartialEq>(&mut self, found: &T, right: &T)
+        ensures { self.new ≡ counted self.old (T.eq found.now right.now) }
+    {
+        self.count(*found == *right);
+    }
+}
+
+// What is written out cannot be promised.
+impl fmt::Display for Tally {
+    fn fmt<W: fmt::Write>(&self, f: &mut fmt::Formatter<W>) -> fmt::Result {
+        let compared = self.compared;
+        let equal = self.equal;
+        write!(f, "compared {compared}, equal {equal}")
+    }
 }
 
 // The bytes of n blocks, where n and the width are what a call takes; else 0.
@@ -84,13 +63,6 @@ pub fn times(n: usize, width: usize) -> usize
 }
 
 // ---- what the second computations share
-
-// The sum in a machine's word: it wraps.
-pub fn add(a: usize, b: usize) -> usize
-    ensures { result ≡ (a + b) % 2 ^ 64 }
-{
-    std::num::wrapping_add_usize(a, b)
-}
 
 // Two pseudo-random sequences, each number from the one before.
 pub fn random(x: u32) -> u32
@@ -113,11 +85,9 @@ pub fn words(seed: u32) -> [u32; 1024]
 {
     let mut out = [0u32; 1024];
     let mut x = seed;
-    let mut i = 0;
-    while i < 1024 {
+    for word in out.iter_mut() {
         x = next(x);
-        out[i] = x;
-        i += 1;
+        *word = x;
     }
     out
 }
@@ -126,19 +96,53 @@ pub fn words(seed: u32) -> [u32; 1024]
 pub fn widened(words: &[u16; 1024]) -> [usize; 1024]
     ensures { Holds (λ i. slice_index words.now i) 1024 result }
 {
-    let mut out = [0usize; 1024];
-    let mut i = 0;
-    while i < 1024 {
-        out[i] = wide(words[i]);
-        i += 1;
-    }
-    out
+    words.map(|word| usize::from(word))
 }
 
-fn wide(x: u16) -> usize
-    ensures { result ≡ x }
+// ---- the older names
+
+pub fn none() -> Tally
+    ensures { result ≡ nothing }
 {
-    x as usize
+    Tally::new()
+}
+
+pub fn tallied(t: Tally, same: bool) -> Tally
+    ensures { result ≡ counted t same }
+{
+    let mut more = t;
+    more.count(same);
+    more
+}
+
+// Whether two answers are the same: true is said of such, and only of such.
+pub fn same_answer(a: Answer, b: Answer) -> bool
+    ensures { (result ≡ true → a ≡ b) × (a ≡ b → result ≡ true) }
+{
+    if a.number != b.number {
+        return false;
+    }
+    if a.place != b.place {
+        return false;
+    }
+    if a.count != b.count {
+        return false;
+    }
+    true
+}
+
+// Whether two slices hold the same words: true is said of such, and only of such.
+pub fn same_words(a: &[u16], b: &[u16]) -> bool
+    ensures { (result ≡ true → a.now ≡ b.now) × (a.now ≡ b.now → result ≡ true) }
+{
+    a == b
+}
+
+// The sum in a machine's word: it wraps.
+pub fn add(a: usize, b: usize) -> usize
+    ensures { result ≡ (a + b) % 2 ^ 64 }
+{
+    a.wrapping_add(b)
 }
 
 // A line with both numbers. What is written out cannot be promised.

@@ -2,17 +2,14 @@
 -- Assumes nothing.
 use Rattle.std.proofs.Common.{refl, arith}
 use Rattle.tally.specs.Tallies.{after}
-use Rattle.tally.proofs.First.{first_none, first_more, first_all, after_more}
+use Rattle.tally.proofs.First.{first_none, first_more, after_more}
 use Rattle.tally.proofs.words.Goals as goal
 
-pub loop-i-init : goal.loop-i-init
+pub loop-word-init : goal.loop-word-init
 unfolding after
-loop-i-init c = (omega arith, refl, first_none _)
+loop-word-init c = (refl, first_none _)
 
-pub loop-i-preserved : goal.loop-i-preserved
-loop-i-preserved c = let l = c.loop-i in
-    let z = after_more _ l.i _ _ l.invariant.1 c.next-x.ensures in
-    (omega arith, z, first_more _ _ _ _ (omega arith) z l.invariant.2)
-
-pub returns : goal.returns
-returns c = first_all _ _ _ (omega arith) c.loop-i.invariant.2
+pub loop-word-preserved : goal.loop-word-preserved
+loop-word-preserved c = let l = c.loop-word in
+    let z = after_more _ l.word-index _ _ l.invariant.0 c.next-x.ensures in
+    (z, first_more _ _ _ _ (omega arith) z l.invariant.1)
