@@ -1,10 +1,7 @@
--- `check_counts::compare` is safe and ends: at each n the equal ones are no more than those compared.
+-- `check_counts::compare` is safe: there is one count for each number of places so far.
 -- Assumes nothing.
-use Rattle.std.proofs.Common.{◌-◌, ◌≤◌}
+use Rattle.std.proofs.Common.{◌≡◌, vec_len}
 use Rattle.check_counts.proofs.compare.Given as goal
 
 abbrev pub invariant-loop-n : goal.invariant-loop-n
-invariant-loop-n l = (l.n ≤ 1025) × (l.switches ≤ l.n) × (l.entries ≤ l.n)
-
-abbrev pub decreases-loop-n : goal.decreases-loop-n
-decreases-loop-n l = 1025 - l.n
+invariant-loop-n g l = vec_len l.filled ≡ l.n
