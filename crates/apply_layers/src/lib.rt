@@ -29,8 +29,8 @@ pub fn in_parts(
 {
     let stride = step * width;
     let across = gap * width;
-    let next = entry_log::packed(0, step, step, 1); // how far apart two switches' entries are
-    let mut x = entry_log::packed(7, o, o + gap, e);
+    let next = entry_log::packed_apart(step, step, 1); // how far apart two switches' entries are
+    let mut x = entry_log::packed(entry_log::Kind::Exchange, o, o + gap, e);
     let mut i = 0;
     while i < c {
         let s = bits[e + i];
@@ -66,8 +66,8 @@ pub fn in_parts_back(
     let across = gap * width;
     let first = bits.len() - (e + c);
     let past = c * step; // a step past the last switch's lower place
-    let next = entry_log::packed(0, step, step, 1);
-    let mut x = entry_log::packed(7, o + past, o + (past + gap), first + c);
+    let next = entry_log::packed_apart(step, step, 1);
+    let mut x = entry_log::packed(entry_log::Kind::Exchange, o + past, o + (past + gap), first + c);
     let mut i = c;
     let mut to = e;
     while 0 < i {

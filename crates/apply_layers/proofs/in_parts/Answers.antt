@@ -18,9 +18,9 @@ overflow_mul-stride c = omega (arith, few_fit c.requires.0 c.requires.1 c.args.s
 pub overflow_mul-across : goal.overflow_mul-across
 overflow_mul-across c = omega (arith, few_fit c.requires.0 c.requires.1 c.args.gap (omega (arith, c.requires.1.near)))
 
-pub packed-next-requires : goal.packed-next-requires
-packed-next-requires c = let h : c.args.step < 65536 = omega (arith, c.requires.1.pace, c.requires.0.places) in
-    (omega arith, h, h, omega arith)
+pub packed_apart-next-requires : goal.packed_apart-next-requires
+packed_apart-next-requires c = let h : c.args.step < 65536 = omega (arith, c.requires.1.pace, c.requires.0.places) in
+    (h, h, omega arith)
 
 pub overflow_add-o : goal.overflow_add-o
 overflow_add-o c = let p = c.requires in
@@ -28,7 +28,7 @@ overflow_add-o c = let p = c.requires in
 
 pub packed-x-requires : goal.packed-x-requires
 packed-x-requires c = let p = c.requires in
-    (omega arith, omega (arith, p.0.places), omega (arith, p.1.near, p.0.places), omega (arith, p.0.enough, p.0.short))
+    (omega (arith, p.0.places), omega (arith, p.1.near, p.0.places), omega (arith, p.0.enough, p.0.short))
 
 pub loop-i-init : goal.loop-i-init
 loop-i-init c = let a = c.args in (
@@ -57,7 +57,7 @@ exchange_rest-requires c = let p = c.requires in
 
 pub overflow_add-x : goal.overflow_add-x
 overflow_add-x c = let a = c.args in
-    let small = switch_small a.step a.gap a.o a.e c.loop-i.i _ _ c.packed-next.ensures c.loop-i.invariant.1
+    let small = switch_small a.step a.gap a.o a.e c.loop-i.i _ _ c.packed_apart-next.ensures c.loop-i.invariant.1
     (omega (arith, (within c.requires.0 c.requires.1 c.loop-i.i (omega arith)).place)) (omega (arith, c.requires.1.pace, c.requires.0.places))
     (omega (arith, c.requires.0.enough, c.requires.0.short)) in
     omega (arith, small)
@@ -68,7 +68,7 @@ loop-i-preserved c = let a = c.args in
     let place = (within c.requires.0 c.requires.1 c.loop-i.i (omega arith)).place in
     let k = c.exchange_rest.auto.blocks ∙ c.exchange_whole.auto.blocks in (
       (omega arith, (k ∙ c.loop-i.invariant.0.1.0, c.write_packed.auto.log ∙ c.loop-i.invariant.0.1.1)),
-      switch_next a.step a.gap a.o a.e i _ _ c.packed-next.ensures c.loop-i.invariant.1,
+      switch_next a.step a.gap a.o a.e i _ _ c.packed_apart-next.ensures c.loop-i.invariant.1,
       first_more a.width a.step a.gap a.o a.bits.now a.e a.e a.blocks.now a.log.now a.c c.requires.1
           c.requires.0 i c.loop-i.blocks c.loop-i.log c.exchange_rest.new.blocks c.write_packed.new.log (omega arith)
           c.loop-i.invariant.0.1.0 c.loop-i.invariant.2

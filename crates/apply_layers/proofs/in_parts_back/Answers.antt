@@ -22,9 +22,9 @@ pub overflow_mul-past : goal.overflow_mul-past
 overflow_mul-past c = let p = c.requires in
     omega (arith, past_near p.0 p.1)
 
-pub packed-next-requires : goal.packed-next-requires
-packed-next-requires c = let h : c.args.step < 65536 = omega (arith, c.requires.1.pace, c.requires.0.places) in
-    (omega arith, h, h, omega arith)
+pub packed_apart-next-requires : goal.packed_apart-next-requires
+packed_apart-next-requires c = let h : c.args.step < 65536 = omega (arith, c.requires.1.pace, c.requires.0.places) in
+    (h, h, omega arith)
 
 pub overflow_add-o : goal.overflow_add-o
 overflow_add-o c = let p = c.requires in
@@ -41,7 +41,7 @@ overflow_add-o-2 c = let p = c.requires in
 pub packed-x-requires : goal.packed-x-requires
 packed-x-requires c = let p = c.requires in
     let n = past_near p.0 p.1 in
-    (omega arith, omega (arith, n, p.0.places), omega (arith, n, p.1.near, p.0.places), omega (arith, p.0.enough, p.0.short))
+    (omega (arith, n, p.0.places), omega (arith, n, p.1.near, p.0.places), omega (arith, p.0.enough, p.0.short))
 
 pub loop-i-init : goal.loop-i-init
 loop-i-init c = ((omega arith, (refl, (refl, refl))), c.packed-x.ensures, λ b l r. r)
@@ -49,7 +49,7 @@ loop-i-init c = ((omega arith, (refl, (refl, refl))), c.packed-x.ensures, λ b l
 pub overflow_sub-x : goal.overflow_sub-x
 overflow_sub-x c = let i : c.loop-i.i ≡ suc (c.loop-i.i - 1) = omega (arith, c.loop-i-test.true) in
     switch-above c.args.step _ _ _ c.loop-i.i (c.loop-i.i - 1) _ _ i
-    c.packed-next.ensures c.loop-i.invariant.1
+    c.packed_apart-next.ensures c.loop-i.invariant.1
 
 pub overflow_mul-a : goal.overflow_mul-a
 overflow_mul-a c = omega (arith, (within c.requires.0 c.requires.1 (c.loop-i.i - 1) (omega arith)).ends)
@@ -75,7 +75,7 @@ loop-i-preserved c = let a = c.args in
     let first = length a.bits.now - (a.e + a.c) in
     let i : c.loop-i.i ≡ suc j = omega arith in
     let place = (within c.requires.0 c.requires.1 (c.loop-i.i - 1) (omega arith)).place in
-    let now = switch-before a.step a.gap a.o first c.loop-i.i j _ _ i c.packed-next.ensures c.loop-i.invariant.1 in
+    let now = switch-before a.step a.gap a.o first c.loop-i.i j _ _ i c.packed_apart-next.ensures c.loop-i.invariant.1 in
     let k = c.exchange_rest.auto.blocks ∙ c.exchange_whole.auto.blocks in (
       (omega arith, (omega arith, (k ∙ c.loop-i.invariant.0.1.1.0, c.write_packed.auto.log ∙ c.loop-i.invariant.0.1.1.1))),
       now,
