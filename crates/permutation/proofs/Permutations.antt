@@ -1,6 +1,6 @@
 -- Permutations as lists: question 6 asks for one, and each has an inverse.
 -- Assumes nothing.
-use mathlib.Core.Path.{◌≡◌, refl, sym, ap}
+use mathlib.Core.Path.{◌≡◌, refl, sym, ap, ◌∙◌}
 use mathlib.Core.Logic.{◌≢◌}
 use mathlib.Core.Bool.{Bool, true, false, ◌&&◌}
 use mathlib.Core.List.{List}
@@ -8,7 +8,8 @@ use Prim.Native.Nat.{ℕ, ◌≤◌, ◌<◌}
 use native.Mathlib.Omega.{arith}
 use native.Mathlib.Decide.{dec_lt}
 use lib.Dec.{eqb, ltb}
-use lib.ListN.{length, get_or}
+use lib.ListN.{length, get_or, take}
+use lib.Seq.{length-take-le, get_or-take}
 use borrow.Author.Tests.{ne_eqb, eqb-true, eqb-false, ltb-true, lt-ltb}
 use Rattle.answers.proofs.Questions.{all_good, none_bad}
 use Rattle.permutation.specs.Permutations.{matches, good_entry, first_bad_entry, IsPermutation}
@@ -47,6 +48,12 @@ pub same_good : (n : ℕ) (a b : List ℕ) (i : ℕ) → ((j : ℕ) → j ≤ i 
 unfolding good_entry
 same_good n a b i h =
     rw (h i (omega arith), same_count (λ j. eqb (get_or a j 0) (get_or b i 0)) (λ j. eqb (get_or b j 0) (get_or b i 0)) i (λ j l. ap (λ x. eqb x (get_or b i 0)) (h j (omega arith))))
+
+-- the entries before one, as a list of their own
+pub matches_before : (es : List ℕ) (i x : ℕ) → i ≤ length es → matches (take i es) (length (take i es)) x ≡ matches es i x
+matches_before es i x h =
+    ap (λ k. matches (take i es) k x) (length-take-le i es h)
+    ∙ same_count (λ j. eqb (get_or (take i es) j 0) x) (λ j. eqb (get_or es j 0) x) i (λ j l. ap (λ y. eqb y x) (get_or-take i es j 0 l))
 
 -- ---- a list passes question 6 exactly when it is a permutation
 

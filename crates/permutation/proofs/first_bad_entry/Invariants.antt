@@ -1,6 +1,5 @@
 -- `permutation::first_bad_entry` meets its contract.
 -- Assumes nothing.
-use Prim.Native.Nat.{◌-◌}
 use lib.ListN.{length}
 use Rattle.permutation.specs.Permutations.{good_entry}
 use Rattle.permutation.proofs.Sweeps.{Sweeping}
@@ -8,6 +7,3 @@ use Rattle.permutation.proofs.first_bad_entry.Given as goal
 
 abbrev pub invariant-loop-i : goal.invariant-loop-i
 invariant-loop-i l = Sweeping (good_entry (length l.order) l.order) (length l.order) l.low l.i
-
-abbrev pub decreases-loop-i : goal.decreases-loop-i
-decreases-loop-i l = length l.order - l.i
