@@ -1,10 +1,11 @@
 // What the check programs compare and count with; no part of the mixer.
 #![tactic(auto)]
 
-ghost use Rattle.std.specs.Prelude.{◌≡◌, ◌+◌, ◌%◌, ◌^◌, ◌≤◌, true, slice_index};
+ghost use Rattle.std.specs.Prelude.{◌≡◌, ◌+◌, ◌%◌, ◌^◌, ◌≤◌, ◌↔◌, IsTrue, true, slice_index};
+ghost use Rattle.answers.specs.Answers.{answer_from, refusal};
 ghost use Rattle.tally.specs.Tallies.{nothing, one, counted, block_bytes, random, scrambled, after, Holds};
 
-use answers::Answer;
+use answers::{Answer, Refusal};
 use std::fmt;
 
 // How many outcomes were compared, and how many of them were equal.
@@ -47,6 +48,25 @@ impl fmt::Display for Tally {
         let equal = self.equal;
         write!(f, "compared {compared}, equal {equal}")
     }
+}
+
+// Whether a call gave these three numbers: a question's, or 0; a place; a count.
+pub fn answered(given: Result<usize, Refusal>, number: usize, place: usize, count: usize) -> bool
+    ensures { IsTrue result ↔ (answer_from given ≡ record { number = number; place = place; count = count }) }
+{
+    let right = Answer {
+        number,
+        place,
+        count,
+    };
+    Answer::from(given) == right
+}
+
+// Whether a call was refused by this question, at this place.
+pub fn refused(given: Result<usize, Refusal>, number: usize, place: usize) -> bool
+    ensures { IsTrue result ↔ (answer_from given ≡ refusal number place) }
+{
+    answered(given, number, place, 0)
 }
 
 // The bytes of n blocks, where n and the width are what a call takes; else 0.
@@ -119,16 +139,7 @@ pub fn tallied(t: Tally, same: bool) -> Tally
 pub fn same_answer(a: Answer, b: Answer) -> bool
     ensures { (result ≡ true → a ≡ b) × (a ≡ b → result ≡ true) }
 {
-    if a.number != b.number {
-        return false;
-    }
-    if a.place != b.place {
-        return false;
-    }
-    if a.count != b.count {
-        return false;
-    }
-    true
+    a == b
 }
 
 // Whether two slices hold the same words: true is said of such, and only of such.
