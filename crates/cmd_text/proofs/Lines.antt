@@ -1,13 +1,16 @@
 -- Bytes put into a buffer, one part behind another; how long the texts get.
 -- Assumes nothing.
 use mathlib.Core.Path.{◌≡◌, refl, sym, ap, ◌∙◌}
+use mathlib.Core.Bool.{Bool, true, false}
 use mathlib.Core.List.{List, [], ◌∷◌, ◌++◌}
-use Prim.Native.Nat.{ℕ, zero, suc, ◌+◌, ◌/◌, ◌%◌, ◌^◌, ◌≤◌, ◌<◌}
+use Prim.Native.Nat.{ℕ, zero, suc, ◌+◌, ◌-◌, ◌/◌, ◌%◌, ◌^◌, ◌≤◌, ◌<◌}
 use native.Mathlib.Numerals.{add-one}
 use native.Mathlib.Omega.{arith}
+use lib.Dec.{eqb}
 use lib.ListN.{length, get_or, take, set, length-append, length-set}
-use lib.Seq.{take-suc, take_all, length-take-le}
-use borrow.Author.Tests.{ne_eqb}
+use lib.Seq.{take-suc, take_all, length-take-le, drop-drop}
+use borrow.Rule.Slice.PartMut.{put_mid}
+use borrow.Author.Tests.{ne_eqb, eqb-true, eqb-false}
 use Rattle.answers.specs.Buffers.{overlay, Put}
 use Rattle.answers.proofs.Buffers.{overlay_none, overlay-one, overlay_more, overlay-length}
 use Rattle.answers.proofs.Putting.{put_then}
@@ -29,6 +32,13 @@ module _ (a : List ℕ) (at : ℕ) (xs ys : List ℕ) (h : at + length (xs ++ ys
 
   pub put_both : {r : ℕ} {b : List ℕ} {q : ℕ} {c : List ℕ} → Put a at xs r b → Put b r ys q c → Put a at (xs ++ ys) q c
   put_both P Q = put_then room_first P Q
+
+-- a part as it is copied in
+pub put_copied : (a : List ℕ) (at : ℕ) (xs : List ℕ) {ys : List ℕ} → ys ≡ xs → Put a at xs (at + length xs) (put_mid at (at + length xs - at) a ys)
+unfolding overlay
+put_copied a at xs e =
+    let n : at + length xs - at ≡ length xs = omega arith in
+    record { place = refl; buffer = rw (e, n, drop-drop (length xs) at a) }
 
 -- three parts: the room behind the first for the second, and behind that for the third
 module _ (ys zs : List ℕ) {a : List ℕ} {at : ℕ} {xs : List ℕ} {r : ℕ} {b : List ℕ} (P : Put a at xs r b) (h : at + length (xs ++ (ys ++ zs)) ≤ length a) where
@@ -74,10 +84,8 @@ module _ (items before : List ℕ) (at : ℕ) (out : List ℕ) (i : ℕ) (L : La
         buffer = rw L.buffer (one ∙ ap (overlay before at) more);
       }
 
-  pub lay_ends : length items ≤ i → Put before at items (at + i) out
-  lay_ends h =
-      let e : i ≡ length items = omega (arith, L.within) in
-      record { place = rw e; buffer = L.buffer ∙ ap (overlay before at) (take_all i items h) }
+  pub lay_ends : length items ≤ i → {r : ℕ} → r ≡ at + length items → Put before at items r out
+  lay_ends h e = record { place = e; buffer = L.buffer ∙ ap (overlay before at) (take_all i items h) }
 
 -- ---- a number
 
@@ -96,6 +104,14 @@ put_last {a} {at} {r} {b} v h g P =
     let k : at + length (ds ++ (x ∷ [])) ≤ length a = rw (← decimal_more v h) g in
     let l : r < length b = omega (arith, room_rest a at ds (x ∷ []) k P) in
     rw (decimal_more v h) (put_both a at ds (x ∷ []) k P (record { place = refl; buffer = sym (overlay-one b r x l) }))
+
+-- ---- whether there is anything
+
+pub empty_is : {b : Bool} {n : ℕ} → b ≡ eqb n 0 → b ≡ true → n ≡ 0
+empty_is {n = n} e t = eqb-true n 0 (sym e ∙ t)
+
+pub empty_not : {b : Bool} {n : ℕ} → b ≡ eqb n 0 → b ≡ false → n ≡ 0 → ⊥
+empty_not {n = n} e t = eqb-false n 0 (sym e ∙ t)
 
 -- ---- the bits
 

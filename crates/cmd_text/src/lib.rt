@@ -3,23 +3,21 @@
 // know how long a text gets.
 #![tactic(auto)]
 
-ghost use Rattle.std.specs.Prelude.{◌≡◌, ◌++◌, ◌+◌, ◌≤◌, nat_abs, length};
+ghost use Rattle.std.specs.Prelude.{◌≡◌, ◌++◌, ◌+◌, ◌≤◌, length};
+ghost use Rattle.answers.specs.Answers.{number_of};
 ghost use Rattle.answers.specs.Buffers.{Put};
 ghost use Rattle.cmd_text.specs.Text.{text, decimal, signed, character, bits_text, line, refusal_line};
 
-use answers::Answer;
+use answers::Refusal;
 
 // The bytes as they are.
 pub fn put_text(out: &mut [u8], at: usize, bytes: &[u8]) -> usize
     requires { at + length bytes.now ≤ length out.old }
     ensures { Put out.old at bytes.now result out.new }
 {
-    let mut i = 0;
-    while i < bytes.len() {
-        out[at + i] = bytes[i];
-        i += 1;
-    }
-    at + i
+    let end = at + bytes.len();
+    out[at..end].copy_from_slice(bytes);
+    end
 }
 
 // A number in decimal: the higher digits first, then the lowest.
@@ -28,22 +26,12 @@ pub fn put_decimal(out: &mut [u8], at: usize, v: usize) -> usize
     ensures { Put out.old at (decimal v) result out.new }
 {
     if v < 10 {
-        out[at] = 48 + v as u8;
+        out[at] = b'0' + v as u8;
         return at + 1;
     }
     let end = put_decimal(out, at, v / 10);
-    out[end] = 48 + (v % 10) as u8;
+    out[end] = b'0' + (v % 10) as u8;
     end + 1
-}
-
-// A number without its sign: of the least z there is, -z is out of range and -1 - z is not.
-fn magnitude(z: i64) -> usize
-    ensures { result ≡ nat_abs z }
-{
-    if z < 0 {
-        return (-1 - z) as usize + 1;
-    }
-    z as usize
 }
 
 // A number in decimal, with its sign where it is below 0.
@@ -53,9 +41,9 @@ pub fn put_signed(out: &mut [u8], at: usize, z: i64) -> usize
 {
     if z < 0 {
         let a = put_text(out, at, b"-");
-        return put_decimal(out, a, magnitude(z));
+        return put_decimal(out, a, z.unsigned_abs() as usize);
     }
-    put_decimal(out, at, magnitude(z))
+    put_decimal(out, at, z.unsigned_abs() as usize)
 }
 
 // A bit as a digit.
@@ -70,15 +58,13 @@ pub fn put_bits(out: &mut [u8], at: usize, bits: &[u8]) -> usize
     requires { at + length (bits_text bits.now) ≤ length out.old }
     ensures { Put out.old at (bits_text bits.now) result out.new }
 {
-    if bits.len() == 0 {
+    if bits.is_empty() {
         return put_text(out, at, b"-");
     }
-    let mut i = 0;
-    while i < bits.len() {
-        out[at + i] = bit_character(bits[i]);
-        i += 1;
+    for (i, bit) in bits.iter().enumerate() {
+        out[at + i] = bit_character(*bit);
     }
-    at + i
+    at + bits.len()
 }
 
 // A line of a label and a number.
@@ -102,11 +88,11 @@ pub fn put_setting(out: &mut [u8], at: usize, bits: &[u8]) -> usize
 }
 
 // The line of a refusal.
-pub fn put_refusal(out: &mut [u8], refused: Answer) -> usize
-    requires { length (refusal_line refused.number refused.place) ≤ length out.old }
-    ensures { Put out.old 0 (refusal_line refused.number refused.place) result out.new }
+pub fn put_refusal(out: &mut [u8], refused: Refusal) -> usize
+    requires { length (refusal_line (number_of refused.reason) refused.place) ≤ length out.old }
+    ensures { Put out.old 0 (refusal_line (number_of refused.reason) refused.place) result out.new }
 {
     let a = put_text(out, 0, b"refused ");
-    let b = put_decimal(out, a, refused.number);
+    let b = put_decimal(out, a, refused.reason.number());
     put_number(out, b, b" at ", refused.place)
 }

@@ -2,14 +2,14 @@
 -- Assumes nothing.
 use mathlib.Core.Path.{sym, ◌∙◌}
 use native.Mathlib.Omega.{arith}
-use Rattle.cmd_text.proofs.Lines.{lay_starts, lay_more, lay_ends, length-characters, character-at, bits_none, bits_some, bits_long}
+use Rattle.cmd_text.proofs.Lines.{lay_starts, lay_more, lay_ends, empty_is, empty_not, length-characters, character-at, bits_none, bits_some, bits_long}
 use Rattle.cmd_text.proofs.put_bits.Goals as goal
 
 pub put_text-requires : goal.put_text-requires
-put_text-requires c = rw (bits_none _ c.if-bits-eq0.true) at c.requires
+put_text-requires c = rw (bits_none _ (empty_is c.is_empty.ensures c.if-is_empty.true)) at c.requires
 
-pub returns-then-bits-eq0 : goal.returns-then-bits-eq0
-returns-then-bits-eq0 c = rw (bits_none _ c.if-bits-eq0.true) c.put_text.ensures
+pub returns-then-is_empty : goal.returns-then-is_empty
+returns-then-is_empty c = rw (bits_none _ (empty_is c.is_empty.ensures c.if-is_empty.true)) c.put_text.ensures
 
 pub loop-i-init : goal.loop-i-init
 loop-i-init c = lay_starts _ _ _
@@ -19,22 +19,19 @@ bounds-bits-i c = omega (arith, length-characters c.args.bits.now)
 
 pub overflow_add-out : goal.overflow_add-out
 overflow_add-out c =
-    omega (arith, bits_long c.args.bits.now c.if-bits-eq0.false, length-characters c.args.bits.now, c.requires, c.loop-i.invariant.within)
+    omega (arith, bits_long c.args.bits.now (empty_not c.is_empty.ensures c.if-is_empty.false), length-characters c.args.bits.now, c.requires, c.loop-i.invariant.within)
 
 pub bounds-out-at : goal.bounds-out-at
-bounds-out-at c = omega (arith, bits_long c.args.bits.now c.if-bits-eq0.false, c.loop-i-test.true, c.requires, c.loop-i.invariant.same)
-
-pub overflow_add-i : goal.overflow_add-i
-overflow_add-i c = omega (arith, length-characters c.args.bits.now)
+bounds-out-at c = omega (arith, bits_long c.args.bits.now (empty_not c.is_empty.ensures c.if-is_empty.false), c.loop-i-test.true, c.requires, c.loop-i.invariant.same)
 
 pub loop-i-preserved : goal.loop-i-preserved
 loop-i-preserved c =
-    lay_more _ _ _ _ _ c.loop-i.invariant _ (omega (arith, length-characters c.args.bits.now, c.loop-i-test.true)) (omega (arith, bits_long c.args.bits.now c.if-bits-eq0.false, length-characters c.args.bits.now, c.requires)) (c.bit_character.ensures ∙ sym (character-at _ _ c.loop-i-test.true))
+    lay_more _ _ _ _ _ c.loop-i.invariant _ (omega (arith, length-characters c.args.bits.now, c.loop-i-test.true)) (omega (arith, bits_long c.args.bits.now (empty_not c.is_empty.ensures c.if-is_empty.false), length-characters c.args.bits.now, c.requires)) (c.bit_character.ensures ∙ sym (character-at _ _ c.loop-i-test.true))
 
 pub overflow_add-result : goal.overflow_add-result
 overflow_add-result c =
-    omega (arith, bits_long c.args.bits.now c.if-bits-eq0.false, length-characters c.args.bits.now, c.requires, c.loop-i.invariant.within)
+    omega (arith, bits_long c.args.bits.now (empty_not c.is_empty.ensures c.if-is_empty.false), length-characters c.args.bits.now, c.requires, c.loop-i.invariant.within)
 
 pub returns : goal.returns
 returns c =
-    rw (bits_some _ c.if-bits-eq0.false) (lay_ends _ _ _ _ _ c.loop-i.invariant (omega (arith, length-characters c.args.bits.now, c.loop-i-test.false)))
+    rw (bits_some _ (empty_not c.is_empty.ensures c.if-is_empty.false)) (lay_ends _ _ _ _ _ c.loop-i.invariant (omega (arith, length-characters c.args.bits.now, c.loop-i-test.false)) (omega (arith, length-characters c.args.bits.now)))
