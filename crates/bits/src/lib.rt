@@ -11,10 +11,8 @@ fn some_bad(bits: &[u8]) -> u8
     ensures { result ≡ unequal (first_bad (is_bit bits.now) (length bits.now)) (length bits.now) }
 {
     let mut bad: u8 = 0;
-    let mut i = 0;
-    while i < bits.len() {
-        bad = bad | ((1 < bits[i]) as u8);
-        i += 1;
+    for bit in bits {
+        bad |= u8::from(1 < *bit);
     }
     bad
 }
@@ -24,10 +22,8 @@ fn locate_bad(bits: &[u8]) -> usize
     ensures { result ≡ first_bad (is_bit bits.now) (length bits.now) }
 {
     let mut low = 0;
-    let mut i = 0;
-    while i < bits.len() {
-        low += ((bits[i] < 2) as usize) & ((low == i) as usize);
-        i += 1;
+    for (i, bit) in bits.iter().enumerate() {
+        low += usize::from(*bit < 2) & usize::from(low == i);
     }
     low
 }

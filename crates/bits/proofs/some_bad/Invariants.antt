@@ -1,12 +1,7 @@
 use mathlib.Core.Path.{◌≡◌}
-use Prim.Native.Nat.{◌≤◌, ◌-◌}
-use lib.ListN.{length}
 use Rattle.answers.specs.Questions.{first_bad}
 use Rattle.bits.specs.Bits.{is_bit, unequal}
 use Rattle.bits.proofs.some_bad.Given as goal
 
-abbrev pub invariant-loop-i : goal.invariant-loop-i
-invariant-loop-i l = (l.i ≤ length l.bits) × (l.bad ≡ unequal (first_bad (is_bit l.bits) l.i) l.i)
-
-abbrev pub decreases-loop-i : goal.decreases-loop-i
-decreases-loop-i l = length l.bits - l.i
+abbrev pub invariant-loop-bit : goal.invariant-loop-bit
+invariant-loop-bit l = l.bad ≡ unequal (first_bad (is_bit l.bits) l.bit-index) l.bit-index
