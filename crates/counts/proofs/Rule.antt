@@ -1,7 +1,7 @@
 -- The rules of W and E without the depth: both are counts by halves, so one argument serves both.
 -- Assumes nothing.
 use mathlib.Core.Path.{◌≡◌, refl, sym, ◌∙◌}
-use Prim.Native.Nat.{ℕ, zero, suc, ◌+◌, ◌-◌, ◌*◌, ◌/◌, ◌%◌, ◌≤◌, ◌<◌}
+use Prim.Native.Nat.{ℕ, zero, suc, ◌+◌, ◌-◌, ◌*◌, ◌/◌, ◌%◌, ◌≤◌, ◌<◌, min}
 use native.Mathlib.Omega.{arith}
 use native.Mathlib.Decide.{dec_lt}
 use borrow.Author.Tests.{lt-ltb, le-ltb, ne_eqb}
@@ -10,6 +10,10 @@ use Rattle.counts.specs.Counts.{W, E, up, by_halves, switch_rule, entry_rule}
 -- half of n rounded up, without a sum that could exceed n
 pub up_parts : (n : ℕ) → n / 2 + n % 2 ≡ up n
 up_parts n = omega arith
+
+-- .. as std rounds it
+pub up_ceil : (n k : ℕ) → k ≡ n / 2 + min 1 (n % 2) → k ≡ up n
+up_ceil n k e = omega (arith, e)
 
 module _ (rule : ℕ → ℕ → ℕ → ℕ) where
   pub none : (d n : ℕ) → n < 2 → by_halves rule d n ≡ 0

@@ -20,14 +20,7 @@ fn read_table(table: &[u16; 1025], n: usize) -> usize
     requires { n ≤ 1024 }
     ensures { StandsAt table.now n result }
 {
-    wide(table[n])
-}
-
-// For a read of a table: it then asks only for the index, where a cast of the element would ask too that it fits.
-fn wide(x: u16) -> usize
-    ensures { result ≡ x }
-{
-    x as usize
+    usize::from(table[n])
 }
 
 // The table's switch count. Public for the crates of the calls only, each of which has asked question 1 before: so it
@@ -55,10 +48,10 @@ pub fn switches_by_halves(n: u32) -> u64
     if n < 2 {
         return 0;
     }
-    let k = n / 2 + n % 2;
+    let k = n.div_ceil(2);
     let top = switches_by_halves(k);
     let bottom = switches_by_halves(n - k);
-    (n - 1) as u64 + top + bottom
+    u64::from(n - 1) + top + bottom
 }
 
 // E by its rule: the top and the bottom network, one place of each pair in the top, and three entries for each pair and
@@ -72,10 +65,10 @@ pub fn entries_by_halves(n: u32) -> u64
     if n == 2 {
         return 2;
     }
-    let pairs = n / 2 + n % 2;
+    let pairs = n.div_ceil(2);
     let top = entries_by_halves(pairs);
     let bottom = entries_by_halves(n - pairs);
-    3 * (pairs as u64) + 3 + top + bottom
+    3 * u64::from(pairs) + 3 + top + bottom
 }
 
 // W by its closed formula n × L − 2^L + 1, with L the count of binary digits of n − 1. The 1 is added before 2^L is
@@ -87,13 +80,12 @@ pub fn switches_by_formula(n: u32) -> u64
         return 0;
     }
     let l = digits(n - 1);
-    (n as u64) * l + 1 - (1u64 << l)
+    u64::from(n) * l + 1 - (1u64 << l)
 }
 
 // L, the count of binary digits of x.
 fn digits(x: u32) -> u64
     ensures { result ≡ L x }
 {
-    let zeros = u32::leading_zeros(x);
-    32 - zeros as u64
+    u64::from(u32::BITS - x.leading_zeros())
 }
