@@ -1,4 +1,4 @@
--- Laws of the number reader: what each case of its enum says, and that what is written is read back.
+-- Laws of the number reader: what each case of its answer says, and that what is written is read back.
 -- Assumes nothing.
 use mathlib.Core.Path.{◌≡◌, refl, sym, ap, ◌∙◌}
 use mathlib.Core.Bool.{Bool, true, false, ◌||◌, and-eq-true_iff}
@@ -7,18 +7,21 @@ use Prim.Native.Nat.{ℕ, ◌+◌, ◌*◌, ◌/◌, ◌%◌, ◌≤◌, ◌<◌
 use native.Mathlib.Omega.{arith}
 use native.Mathlib.Decide.{dec_lt}
 use lib.Dec.{ltb, leb}
-use lib.ListN.{length, length-append}
+use lib.ListN.{length, get_or, length-append}
 use lib.Seq.{get_or-append_seam, get_or-append-add}
 use borrow.Author.Tests.{lt-ltb, le-ltb, le-leb, lt-leb, ltb-true}
-use Rattle.answers.specs.Answers.{refusal}
+use Rattle.std.specs.Prelude.{Result, Ok, Err}
+use Rattle.answers.specs.declared.Reason.{Reason}
+use Rattle.answers.specs.declared.Reason.TheVariants.{Places, Width, BlockBytes, BitCount, LogRoom, Entry, BitByte, NextByte, ShortestForm, FormNumber, FillBits, InputEnd, OutputRoom, Place, OneLength, SmallOrder, Words}
+use Rattle.answers.specs.declared.Refusal.{Refusal}
+use Rattle.answers.specs.Answers.{refusal, number_of}
 use Rattle.answers.specs.Questions.{Question, ask, Verdict, all_yes, no_at, first_no, Numbered}
 use Rattle.answers.specs.Outcomes.{answer_of}
 use Rattle.answers.proofs.Questions.{passed}
 use Rattle.answers.proofs.Outcomes.{accepted_when}
 use Rattle.numbers.specs.Numbers.{number_bytes, byte_at, one_byte, ends, number_questions, value_at, place_after, NumberAnswer, number_answer, number_at, NumberForm, sevens, Reads}
-use Rattle.numbers.specs.Reading.{meaning, read_of}
-use Rattle.numbers.specs.declared.ReadNumber.{ReadNumber}
-use Rattle.numbers.specs.declared.ReadNumber.TheVariants.{Number, Refused}
+use Rattle.numbers.specs.Reading.{meaning, ReadAs}
+use Rattle.numbers.specs.declared.Number.{Number}
 
 -- ---- the questions, case by case
 
@@ -46,17 +49,23 @@ module _ (input : List ℕ) (at : ℕ) where
   unfolding number_at
   read_as w e a b = rw (e, a, b)
 
-  refused_as : {q p : ℕ} → first_no (number_questions input at) ≡ no_at q p → meaning (Refused q p) ≡ number_at input at
+  refused_as : (r : Refusal) → first_no (number_questions input at) ≡ no_at (number_of r.reason) r.place → meaning (Err r) ≡ number_at input at
   unfolding number_at
-  refused_as e = rw e
+  refused_as r e = rw e
+
+  abbrev no_byte : Refusal
+  no_byte = record { reason = NextByte; place = length input }
+
+  abbrev bad_form : Refusal
+  bad_form = record { reason = ShortestForm; place = at }
 
   -- no first byte
-  pub none : length input ≤ at → meaning (Refused 8 (length input)) ≡ number_at input at
+  pub none : length input ≤ at → meaning (Err no_byte) ≡ number_at input at
   unfolding number_questions
-  none h = refused_as (rw (le-ltb _ _ h))
+  none h = refused_as no_byte (rw (le-ltb _ _ h))
 
   module _ {low : ℕ} (h : at < length input) (e : low ≡ byte_at input at) where
-    pub one : low < 128 → meaning (Number low (at + 1)) ≡ number_at input at
+    pub one : low < 128 → meaning (Ok (record { value = low; next = at + 1 })) ≡ number_at input at
     unfolding number_questions
     one l =
         let t : one_byte input at ≡ true = rw (← e) (lt-ltb _ _ l) in
@@ -64,25 +73,25 @@ module _ (input : List ℕ) (at : ℕ) where
 
     module _ (l : 128 ≤ low) where
       -- no second byte
-      pub cut : length input ≤ at + 1 → meaning (Refused 8 (length input)) ≡ number_at input at
+      pub cut : length input ≤ at + 1 → meaning (Err no_byte) ≡ number_at input at
       unfolding number_questions
-      cut g = refused_as (rw (lt-ltb _ _ h, ← e, le-ltb _ _ l, le-ltb _ _ g))
+      cut g = refused_as no_byte (rw (lt-ltb _ _ h, ← e, le-ltb _ _ l, le-ltb _ _ g))
 
       module _ {high : ℕ} (g : at + 1 < length input) (f : high ≡ byte_at input (at + 1)) where
         -- a second byte that is not needed, or that calls for a third
-        pub needless : high ≡ 0 → meaning (Refused 9 at) ≡ number_at input at
+        pub needless : high ≡ 0 → meaning (Err bad_form) ≡ number_at input at
         unfolding number_questions
         needless z =
             let s : high < 1 = omega arith in
-            refused_as (rw (lt-ltb _ _ h, ← e, le-ltb _ _ l, lt-ltb _ _ g, ← f, lt-leb _ _ s))
+            refused_as bad_form (rw (lt-ltb _ _ h, ← e, le-ltb _ _ l, lt-ltb _ _ g, ← f, lt-leb _ _ s))
 
-        pub third : 128 ≤ high → meaning (Refused 9 at) ≡ number_at input at
+        pub third : 128 ≤ high → meaning (Err bad_form) ≡ number_at input at
         unfolding number_questions
         third z =
             let s : 1 ≤ high = omega arith in
-            refused_as (rw (lt-ltb _ _ h, ← e, le-ltb _ _ l, lt-ltb _ _ g, ← f, le-leb _ _ s, le-ltb _ _ z))
+            refused_as bad_form (rw (lt-ltb _ _ h, ← e, le-ltb _ _ l, lt-ltb _ _ g, ← f, le-leb _ _ s, le-ltb _ _ z))
 
-        pub two : (high ≡ 0 → ⊥) → high < 128 → meaning (Number (low % 128 + high * 128) (at + 2)) ≡ number_at input at
+        pub two : (high ≡ 0 → ⊥) → high < 128 → meaning (Ok (record { value = low % 128 + high * 128; next = at + 2 })) ≡ number_at input at
         unfolding number_questions
         two n z =
             let s : 1 ≤ high = omega arith in
@@ -104,46 +113,84 @@ module _ (input : List ℕ) (at : ℕ) where
       go true t = omega (arith, short_place input at t)
       go false t = omega (arith, long_place input at t)
 
-  pub reads : (v p : ℕ) → meaning (Number v p) ≡ number_at input at → Reads sevens input at v p
+  pub reads : (x : Number) → meaning (Ok x) ≡ number_at input at → Reads sevens input at x.value x.next
   unfolding number_at
-  reads v p e = go (first_no (number_questions input at)) refl
+  reads x e = go (first_no (number_questions input at)) refl
     where
-      go : (w : Verdict) → first_no (number_questions input at) ≡ w → Reads sevens input at v p
+      go : (w : Verdict) → first_no (number_questions input at) ≡ w → Reads sevens input at x.value x.next
       go all_yes t = record { asked = t; value = sym (ap (λ (a : NumberAnswer). a.value) e); next = sym (ap (λ (a : NumberAnswer). a.next) e) }
       go (no_at n m) t =
           let z : 0 ≡ n = ap (λ (a : NumberAnswer). a.answer.number) e ∙ rw t in
           let y : (answer_of (first_no (number_questions input at)) 0).number ≡ 0 = rw t (sym z) in
           let x : first_no (number_questions input at) ≡ all_yes = accepted_when (number_questions input at) 0 (numbered input at) y in
-          absurd (let w : no_at n m ≡ all_yes = sym t ∙ x in let v : ◌≡◌ {A = ℕ} 0 1 = cc in omega arith)
+          absurd (let w : no_at n m ≡ all_yes = sym t ∙ x in cc)
 
-  pub refused : (q p : ℕ) → meaning (Refused q p) ≡ number_at input at → first_no (number_questions input at) ≡ no_at q p
+  pub refused : (r : Refusal) → meaning (Err r) ≡ number_at input at → first_no (number_questions input at) ≡ no_at (number_of r.reason) r.place
   unfolding number_at
-  refused q p e = go (first_no (number_questions input at)) refl
+  refused r e = go (first_no (number_questions input at)) refl
     where
-      go : (w : Verdict) → first_no (number_questions input at) ≡ w → first_no (number_questions input at) ≡ no_at q p
+      go : (w : Verdict) → first_no (number_questions input at) ≡ w → first_no (number_questions input at) ≡ no_at (number_of r.reason) r.place
       go all_yes t =
           let z : 0 ≡ place_after input at = ap (λ (a : NumberAnswer). a.next) e ∙ rw t in
           absurd (omega (arith, past))
       go (no_at n m) t =
-          let z : refusal q p ≡ refusal n m = ap (λ (a : NumberAnswer). a.answer) e ∙ rw t in
-          let y : q ≡ n = ap (λ a. a.number) z in
-          let x : p ≡ m = ap (λ a. a.place) z in
+          let z : refusal (number_of r.reason) r.place ≡ refusal n m = ap (λ (a : NumberAnswer). a.answer) e ∙ rw t in
+          let y : number_of r.reason ≡ n = ap (λ a. a.number) z in
+          let x : r.place ≡ m = ap (λ a. a.place) z in
           rw (y, x) t
 
--- the promise leaves no room: one case of the enum, with its two numbers, meets it
+-- the promise leaves no room: one Ok or one Err meets it
 pub taken_apart :
-    (input : List ℕ) (at : ℕ) (r : ReadNumber)
+    (input : List ℕ) (at : ℕ) (r : Result Number Refusal)
     → meaning r ≡ number_at input at
-    → r ≡ read_of (first_no (number_questions input at)) (number_at input at).value (number_at input at).next
-taken_apart input at (Number v p) e = let R = reads input at v p e in rw (R.asked, R.value, R.next)
-taken_apart input at (Refused q p) e = rw (refused input at q p e)
+    → ReadAs (first_no (number_questions input at)) (record { value = (number_at input at).value; next = (number_at input at).next }) r
+taken_apart input at (Ok x) e = let R = reads input at x e in (R.asked, rw (R.value, R.next))
+taken_apart input at (Err r) e = refused input at r e
+
+-- a question's number says which it is
+abbrev reason_of : ℕ → Reason
+reason_of n =
+    get_or
+    (Words ∷ Places ∷ Width ∷ BlockBytes ∷ BitCount ∷ LogRoom ∷ Entry ∷ BitByte ∷ NextByte ∷ ShortestForm ∷ FormNumber ∷ FillBits ∷ InputEnd ∷ OutputRoom ∷ Place ∷ OneLength ∷ Words ∷ SmallOrder ∷ [])
+    n Words
+
+reason_back : (r : Reason) → reason_of (number_of r) ≡ r
+reason_back Places = refl
+reason_back Width = refl
+reason_back BlockBytes = refl
+reason_back BitCount = refl
+reason_back LogRoom = refl
+reason_back Entry = refl
+reason_back BitByte = refl
+reason_back NextByte = refl
+reason_back ShortestForm = refl
+reason_back FormNumber = refl
+reason_back FillBits = refl
+reason_back InputEnd = refl
+reason_back OutputRoom = refl
+reason_back Place = refl
+reason_back OneLength = refl
+reason_back SmallOrder = refl
+reason_back Words = refl
+
+pub read_once : {A : Type 0} (v : Verdict) (x : A) (r r' : Result A Refusal) → ReadAs v x r → ReadAs v x r' → r ≡ r'
+read_once v x (Ok y) (Ok y') R R' = rw (R.1, R'.1)
+read_once v x (Ok y) (Err e) R R' = absurd (let z : no_at (number_of e.reason) e.place ≡ all_yes = sym R' ∙ R.0 in cc)
+read_once v x (Err e) (Ok y) R R' = absurd (let z : no_at (number_of e.reason) e.place ≡ all_yes = sym R ∙ R'.0 in cc)
+read_once v x (Err e) (Err e') R R' =
+    let z : no_at (number_of e.reason) e.place ≡ no_at (number_of e'.reason) e'.place = sym R ∙ R' in
+    let n : number_of e.reason ≡ number_of e'.reason = cc in
+    let p : e.place ≡ e'.place = cc in
+    let q : e.reason ≡ e'.reason = sym (reason_back e.reason) ∙ ap reason_of n ∙ reason_back e'.reason in
+    ap Err (ap (λ m. record { reason = m; place = e.place }) q ∙ ap (λ m. record { reason = e'.reason; place = m }) p)
 
 pub only_one :
-    (input : List ℕ) (at : ℕ) (r r' : ReadNumber)
+    (input : List ℕ) (at : ℕ) (r r' : Result Number Refusal)
     → meaning r ≡ number_at input at
     → meaning r' ≡ number_at input at
     → r ≡ r'
-only_one input at r r' e e' = taken_apart input at r e ∙ sym (taken_apart input at r' e')
+only_one input at r r' e e' =
+    read_once (first_no (number_questions input at)) _ r r' (taken_apart input at r e) (taken_apart input at r' e')
 
 -- ---- what is written is read back
 
@@ -178,7 +225,7 @@ number-back xs ys v h = go (dec_lt v 128)
     go : Dec (v < 128) → Reads sevens (xs ++ (number_bytes v ++ ys)) (length xs) v (length xs + length (number_bytes v))
     go (yes l) =
         rw (bytes_one v l)
-        (reads (xs ++ v ∷ ys) (length xs) v (length xs + 1)
+        (reads (xs ++ v ∷ ys) (length xs) (record { value = v; next = length xs + 1 })
         (one (xs ++ v ∷ ys) (length xs) (omega (arith, length-append xs (v ∷ ys))) (sym (get_or-append_seam xs v ys 0)) l))
     go (no l) =
         let a = v % 128 + 128 in
@@ -187,7 +234,7 @@ number-back xs ys v h = go (dec_lt v 128)
         let e : a % 128 + b * 128 ≡ v = omega arith in
         rw (bytes_two v (omega arith))
         (rw e at
-        (reads s (length xs) (a % 128 + b * 128) (length xs + 2)
+        (reads s (length xs) (record { value = a % 128 + b * 128; next = length xs + 2 })
         (two s (length xs) (omega (arith, length-append xs (a ∷ b ∷ ys))) (sym (get_or-append_seam xs a (b ∷ ys) 0)) (omega arith)
         (omega (arith, length-append xs (a ∷ b ∷ ys))) (sym (get_or-append-add xs (a ∷ b ∷ ys) 1 0)) (omega arith) (omega arith))))
 
@@ -211,22 +258,3 @@ value_small input at = go (first_no (number_questions input at)) refl
     go : (w : Verdict) → first_no (number_questions input at) ≡ w → (number_at input at).value < 16384
     go all_yes t = rw t (wide (one_byte input at) refl t)
     go (no_at q p) t = rw t (omega arith)
-
--- ---- the case of a verdict
-
-pub record Got (w : Verdict) (a b v p : ℕ) : Type 0 where
-  pub asked : w ≡ all_yes
-  pub value : v ≡ a
-  pub place : p ≡ b
-
-pub got_number : (w : Verdict) (a b : ℕ) {v p : ℕ} → Number v p ≡ read_of w a b → Got w a b v p
-got_number all_yes a b {v} {p} e = let z : Number v p ≡ Number a b = e in record { asked = refl; value = cc; place = cc }
-got_number (no_at q m) a b {v} {p} e = absurd (let z : Number v p ≡ Refused q m = e in let y : ◌≡◌ {A = ℕ} 0 1 = cc in omega arith)
-
-pub got_refused : (w : Verdict) (a b : ℕ) {q p : ℕ} → Refused q p ≡ read_of w a b → w ≡ no_at q p
-got_refused all_yes a b {q} {p} e = absurd (let z : Refused q p ≡ Number a b = e in let y : ◌≡◌ {A = ℕ} 0 1 = cc in omega arith)
-got_refused (no_at n m) a b {q} {p} e =
-    let z : Refused q p ≡ Refused n m = e in
-    let y : q ≡ n = cc in
-    let x : p ≡ m = cc in
-    rw (y, x)

@@ -1,21 +1,22 @@
--- The reader's enum: what each of its cases says in 01's numbers.
+-- What a reading gives, Ok or Err, in 01's numbers.
 -- Assumes nothing: these are definitions.
-use Rattle.std.specs.Prelude.{ℕ}
+use Rattle.std.specs.Prelude.{◌≡◌, Result, Ok, Err, MatchResult}
 use Rattle.answers.specs.declared.Answer.{Answer}
+use Rattle.answers.specs.declared.Refusal.{Refusal}
+use Rattle.answers.specs.Answers.{number_of, answer_with}
 use Rattle.answers.specs.Questions.{Verdict, all_yes, no_at}
 use Rattle.numbers.specs.Numbers.{NumberAnswer, number_answer}
-use Rattle.numbers.specs.declared.ReadNumber.{ReadNumber}
-use Rattle.numbers.specs.declared.ReadNumber.TheVariants.{Number, Refused}
+use Rattle.numbers.specs.declared.Number.{Number}
 
 -- 01's answer for each case
-abbrev pub meaning : ReadNumber → NumberAnswer
-meaning (Number v p) = number_answer all_yes v p
-meaning (Refused q p) = number_answer (no_at q p) 0 0
+abbrev pub meaning : Result Number Refusal → NumberAnswer
+meaning (Ok x) = number_answer all_yes x.value x.next
+meaning (Err r) = number_answer (no_at (number_of r.reason) r.place) 0 0
 
-abbrev pub answer_of : ReadNumber → Answer
-answer_of r = (meaning r).answer
+-- .. and the answer of any reading: nothing is counted
+abbrev pub answer_of : {A : Type 0} → Result A Refusal → Answer
+answer_of = answer_with (λ _. 0)
 
--- the case for each verdict: a number and the place after it, or the refusal
-abbrev pub read_of : Verdict → ℕ → ℕ → ReadNumber
-read_of all_yes v p = Number v p
-read_of (no_at q p) v n = Refused q p
+-- a reading against the verdict of its questions: what is read where each gets a yes, or the first no
+abbrev pub ReadAs : {A : Type 0} → Verdict → A → Result A Refusal → Type 0
+ReadAs v x r = MatchResult r (λ y. (v ≡ all_yes) × (y ≡ x)) (λ e. v ≡ no_at (number_of e.reason) e.place)

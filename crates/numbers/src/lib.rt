@@ -4,66 +4,49 @@
 ghost use Rattle.std.specs.Prelude.{◌≡◌, ◌+◌, ◌≤◌, ◌<◌, length};
 ghost use Rattle.answers.specs.Buffers.{Put};
 ghost use Rattle.numbers.specs.Numbers.{number_bytes, number_at};
-ghost use Rattle.numbers.specs.Reading.{meaning, answer_of};
+ghost use Rattle.numbers.specs.Reading.{meaning};
 
-// A number with the place after it, or a refusal: the question and the place of its no.
-#[derive(Clone, Copy)]
-pub enum ReadNumber {
-    Number(usize, usize),
-    Refused(usize, usize),
+use answers::{Reason, Refusal};
+
+/// A number that was read, and the place after it.
+#[derive(Clone, Copy, Debug, PartialEq, Eq)]
+pub struct Number {
+    pub value: usize,
+    pub next: usize,
 }
 
-// Questions 8 and 9 at a place of the input, or past its end.
-pub fn read_number(input: &[u8], at: usize) -> ReadNumber
+/// Questions 8 and 9 at a place of the input, or past its end.
+pub fn read_number(input: &[u8], at: usize) -> Result<Number, Refusal>
     ensures { meaning result ≡ number_at input.now at }
 {
+    let no_byte = Refusal::at(Reason::NextByte, input.len());
+    let bad_form = Refusal::at(Reason::ShortestForm, at);
     if input.len() <= at {
-        return no_byte(input);
+        return Err(no_byte);
     }
-    let low = wide(input[at]);
+    let low = usize::from(input[at]);
     if low < 128 {
-        return ReadNumber::Number(low, at + 1);
+        return Ok(Number {
+            value: low,
+            next: at + 1,
+        });
     }
     let second = at + 1;
     if input.len() <= second {
-        return no_byte(input);
+        return Err(no_byte);
     }
-    let high = wide(input[second]);
-    if high == 0 {
-        return bad_form(at);
+    let high = usize::from(input[second]);
+    if high == 0 || 128 <= high {
+        return Err(bad_form);
     }
-    if 128 <= high {
-        return bad_form(at);
-    }
-    ReadNumber::Number(low % 128 + high * 128, at + 2)
+    Ok(Number {
+        value: low % 128 + high * 128,
+        next: at + 2,
+    })
 }
 
-// Question 8 names the input's length.
-fn no_byte(input: &[u8]) -> ReadNumber
-    ensures { result ≡ ReadNumber.Refused 8 (length input.now) }
-{
-    ReadNumber::Refused(8, input.len())
-}
-
-// Question 9 names the number's first byte.
-fn bad_form(at: usize) -> ReadNumber
-    ensures { result ≡ ReadNumber.Refused 9 at }
-{
-    ReadNumber::Refused(9, at)
-}
-
-// The answer of a reading, in 01's numbers.
-pub fn answer(r: ReadNumber) -> answers::Answer
-    ensures { result ≡ answer_of r }
-{
-    match r {
-        ReadNumber::Number(_, _) => answers::accept(0),
-        ReadNumber::Refused(question, place) => answers::refuse(question, place),
-    }
-}
-
-// A number's bytes, at a place of buf. The answer is the place after them. Public for the crates that write numbers, and so
-// with a `requires` of its own.
+/// A number's bytes, at a place of buf. The answer is the place after them. Public for the crates that write numbers, and so
+/// with a `requires` of its own.
 pub fn put_number(buf: &mut [u8], at: usize, v: usize) -> usize
     requires { (v < 16384) × (at + 2 ≤ length buf.old) }
     ensures { Put buf.old at (number_bytes v) result buf.new }
@@ -76,11 +59,4 @@ pub fn put_number(buf: &mut [u8], at: usize, v: usize) -> usize
     buf[at] = (v % 128 + 128) as u8;
     buf[second] = (v / 128) as u8;
     at + 2
-}
-
-// A read of a slice asks only for the index, where a cast of it would ask too that the byte fits.
-fn wide(x: u8) -> usize
-    ensures { result ≡ x }
-{
-    x as usize
 }
