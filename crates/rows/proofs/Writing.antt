@@ -14,14 +14,13 @@ use Rattle.rows.specs.Rows.{numbers_bytes}
 use Rattle.rows.proofs.Rows.{bytes_more}
 
 pub record Entering (form : NumberForm) (row before : List ℕ) (start : ℕ) (buf : List ℕ) (at j : ℕ) : Type 0 where
-  pub within : j ≤ length row
   pub same : length buf ≡ length before
   pub room : at ≤ start + 2 * j
   pub put : Put before start (numbers_bytes form (take j row)) at buf
 
 pub entering_starts : (form : NumberForm) (row before : List ℕ) (start : ℕ) → Entering form row before start before start 0
 unfolding numbers_bytes
-entering_starts form row before start = record { within = omega arith; same = refl; room = omega arith; put = put_none before start }
+entering_starts form row before start = record { same = refl; room = omega arith; put = put_none before start }
 
 module _
     (form : NumberForm) (row before : List ℕ) (start : ℕ) {buf : List ℕ} {at j : ℕ} (E : Entering form row before start buf at j)
@@ -41,7 +40,6 @@ module _
         ap (numbers_bytes form) more ∙ bytes_more form (take j row) v
         in
         record {
-          within = omega arith;
           same = n ∙ E.same;
           room = omega (arith, P.place, few, E.room);
           put = rw all (put_then (omega (arith, E.put.place, E.room)) E.put P);

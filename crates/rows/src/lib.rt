@@ -2,51 +2,45 @@
 // that read and write these, and so with a `requires`.
 #![tactic(auto)]
 
-ghost use Rattle.std.specs.Prelude.{◌≡◌, ◌≤◌, ◌+◌, ◌-◌, ◌*◌, length};
+ghost use Rattle.std.specs.Prelude.{◌≡◌, ◌≤◌, ◌+◌, ◌*◌, length};
 ghost use Rattle.answers.specs.Buffers.{Put};
 ghost use Rattle.numbers.specs.Numbers.{sevens};
-ghost use Rattle.rows.specs.Rows.{numbers_bytes, numbers_questions, numbers_at, place_past, Fourteens, Row};
+ghost use Rattle.rows.specs.Rows.{numbers_bytes, numbers_questions, numbers_at, row_end, Fourteens, Row};
 
-use numbers::ReadNumber;
+use answers::Refusal;
 
-// k numbers from a place on, to the front of values: the place of the last one with the place after it, or the refusal.
-pub fn read_row(input: &[u8], start: usize, k: usize, values: &mut [u16]) -> ReadNumber
+/// Where a row ends: the place of its last number, and the place after it.
+#[derive(Clone, Copy, Debug, PartialEq, Eq)]
+pub struct RowEnd {
+    pub last: usize,
+    pub next: usize,
+}
+
+/// k numbers from a place on, to the front of values.
+pub fn read_row(input: &[u8], start: usize, k: usize, values: &mut [u16]) -> Result<RowEnd, Refusal>
     requires { k ≤ length values.old }
-    ensures { Row (numbers_questions sevens k input.now start) (place_past sevens (k - 1) input.now start)
-        (place_past sevens k input.now start) k (numbers_at sevens k input.now start) values.new result }
+    ensures { Row (numbers_questions sevens k input.now start) (row_end sevens k input.now start) k
+        (numbers_at sevens k input.now start) values.new result }
 {
     let mut last = start;
     let mut at = start;
-    let mut j = 0;
-    while j < k {
-        let next = numbers::read_number(input, at);
-        let ReadNumber::Number(v, past) = next else {
-            return next;
-        };
-        values[j] = v as u16;
+    for value in &mut values[..k] {
+        let number = numbers::read_number(input, at)?;
+        *value = number.value as u16;
         last = at;
-        at = past;
-        j += 1;
+        at = number.next;
     }
-    ReadNumber::Number(last, at)
+    Ok(RowEnd { last, next: at })
 }
 
-// The bytes of the numbers, from a place of buf on. The answer is the place after them.
+/// The bytes of the numbers, from a place of buf on. The answer is the place after them.
 pub fn put_row(row: &[u16], buf: &mut [u8], start: usize) -> usize
     requires { (start + 2 * length row.now ≤ length buf.old) × Fourteens row.now }
     ensures { Put buf.old start (numbers_bytes sevens row.now) result buf.new }
 {
     let mut at = start;
-    let mut j = 0;
-    while j < row.len() {
-        at = numbers::put_number(buf, at, wide(row[j]));
-        j += 1;
+    for value in row {
+        at = numbers::put_number(buf, at, usize::from(*value));
     }
     at
-}
-
-fn wide(x: u16) -> usize
-    ensures { result ≡ x }
-{
-    x as usize
 }

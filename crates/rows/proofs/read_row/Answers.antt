@@ -1,26 +1,28 @@
 -- `rows::read_row` meets its contract.
 -- Assumes nothing.
 use native.Mathlib.Omega.{arith}
-use mathlib.Core.Path.{sym, ap, ◌∙◌}
-use Rattle.numbers.specs.Reading.{meaning}
+use lib.Seq.{length-take-le}
+use Rattle.std.proofs.lemmas.Result.{err_from_is_err_and}
 use Rattle.numbers.proofs.Numbers.{reads, refused, value_small}
 use Rattle.rows.proofs.Reading.{reading_starts, reading_more, reading_stops, reading_ends}
 use Rattle.rows.proofs.read_row.Goals as goal
 
-pub loop-j-init : goal.loop-j-init
-loop-j-init c = reading_starts _ _ _ _ _
+pub loop-value-init : goal.loop-value-init
+loop-value-init c = reading_starts _ _ _ _ _ (length-take-le _ _ c.requires)
 
-pub returns-in_default : goal.returns-in_default
-returns-in_default c = reading_stops _ _ _ _ _ _ _ _ _ c.loop-j.invariant _ _ _ c.loop-j-test.true c.in_default.is
-    (refused _ _ _ _ (ap meaning (sym c.in_default.is) ∙ c.read_number-next.ensures))
+pub returns-in_err-number : goal.returns-in_err-number
+returns-in_err-number c =
+    let p = err_from_is_err_and c.from_residual.result c.from_residual.ensures.1 in
+    rw (p.1, p.2)
+    (reading_stops _ _ _ _ _ _ _ _ c.loop-value.invariant _ (omega arith) (refused _ _ _ c.in_err-number.ensures) _)
 
-pub overflow_cast-values : goal.overflow_cast-values
-overflow_cast-values c = let N = reads _ _ _ _ (ap meaning (sym c.in-Number.is) ∙ c.read_number-next.ensures) in
-    omega (arith, N.value, value_small c.args.input.now c.loop-j.at)
+pub overflow_cast-value : goal.overflow_cast-value
+overflow_cast-value c =
+    omega (arith, (reads _ _ _ c.in_ok-number.ensures).value, value_small c.args.input.now c.loop-value.at)
 
-pub loop-j-preserved : goal.loop-j-preserved
-loop-j-preserved c = reading_more _ _ _ _ _ _ _ _ _ c.loop-j.invariant _ _ (omega arith) (omega arith)
-    (reads _ _ _ _ (ap meaning (sym c.in-Number.is) ∙ c.read_number-next.ensures))
+pub loop-value-preserved : goal.loop-value-preserved
+loop-value-preserved c =
+    reading_more _ _ _ _ _ _ _ _ c.loop-value.invariant _ _ (omega arith) (reads _ _ _ c.in_ok-number.ensures)
 
 pub returns : goal.returns
-returns c = reading_ends _ _ _ _ _ _ _ _ _ c.loop-j.invariant c.loop-j-test.false
+returns c = reading_ends _ _ _ _ _ _ _ _ c.loop-value.invariant (omega arith) _

@@ -1,12 +1,8 @@
 -- `rows::read_row` meets its contract.
 -- Assumes nothing.
-use Prim.Native.Nat.{◌-◌}
 use Rattle.numbers.specs.Numbers.{sevens}
 use Rattle.rows.proofs.Reading.{Reading}
 use Rattle.rows.proofs.read_row.Given as goal
 
-abbrev pub invariant-loop-j : goal.invariant-loop-j
-invariant-loop-j l = Reading sevens l.input l.start l.k l.initial.values l.values l.last l.at l.j
-
-abbrev pub decreases-loop-j : goal.decreases-loop-j
-decreases-loop-j l = l.k - l.j
+abbrev pub invariant-loop-value : goal.invariant-loop-value
+invariant-loop-value l = Reading sevens l.input l.start l.k l.value-items l.last l.at l.value-index
