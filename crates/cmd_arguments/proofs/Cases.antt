@@ -2,37 +2,37 @@
 -- Assumes nothing.
 use mathlib.Core.Path.{◌≡◌, refl}
 use mathlib.Core.List.{List, [], ◌∷◌, map}
+use Prim.Native.Nat.{ℕ}
 use Prim.Native.String.{String}
+use Rattle.std.specs.Prelude.{Option, Some, None}
 use Rattle.answers.specs.Answers.{refusal, accepted}
 use Rattle.cmd_text.specs.Text.{text, digits, decimal, refusal_line}
-use Rattle.cmd_arguments.specs.declared.Argument.{Argument}
-use Rattle.cmd_arguments.specs.declared.Argument.TheVariants.{Number, NoNumber}
 use Rattle.cmd_arguments.specs.Decimal.{value_on, decimal_in}
 use Rattle.cmd_arguments.specs.Streams.{output_of, error_of}
 
 -- an argument, and what it says
 pub record Case : Type 0 where
   pub given : String
-  pub says : Argument
+  pub says : Option ℕ
 
-abbrev pub says : String → Argument → Case
+abbrev pub says : String → Option ℕ → Case
 says given is = record { given = given; says = is }
 
 unfoldable pub cases : List Case
 cases =
-    says "0" (Number 0)
-    ∷ says "256" (Number 256)
-    ∷ says "00009" (Number 9)
-    ∷ says "9999" (Number 9999)
-    ∷ says "10000" (Number 10000)
-    ∷ says "10001" (Number 10000)
-    ∷ says "18446744073709551617" (Number 10000)
-    ∷ says "" NoNumber
-    ∷ says "1/" NoNumber
-    ∷ says ":1" NoNumber
-    ∷ says "-1" NoNumber
-    ∷ says " 1" NoNumber
-    ∷ says "99999x" NoNumber
+    says "0" (Some 0)
+    ∷ says "256" (Some 256)
+    ∷ says "00009" (Some 9)
+    ∷ says "9999" (Some 9999)
+    ∷ says "10000" (Some 10000)
+    ∷ says "10001" (Some 10000)
+    ∷ says "18446744073709551617" (Some 10000)
+    ∷ says "" None
+    ∷ says "1/" None
+    ∷ says ":1" None
+    ∷ says "-1" None
+    ∷ says " 1" None
+    ∷ says "99999x" None
     ∷ []
 
 pub arguments_say : map (λ (c : Case). decimal_in (text c.given)) cases ≡ map (λ (c : Case). c.says) cases

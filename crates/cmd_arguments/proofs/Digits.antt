@@ -11,7 +11,7 @@ use borrow.Author.Tests.{le-leb, lt-leb, eq-eqb, ne_eqb}
 use lib.Dec.{eqb}
 use lib.ListN.{length, get_or, drop, drop_of_length-le}
 use lib.Seq.{drop-cons}
-use Rattle.cmd_arguments.specs.declared.Argument.TheVariants.{Number, NoNumber}
+use Rattle.std.specs.Prelude.{Some, None}
 use Rattle.cmd_arguments.specs.Decimal.{most, value_on, decimal_in}
 
 -- ---- how many arguments there are
@@ -28,7 +28,7 @@ all_some all k n = go (ℕ_discrete all (k + 1))
 
 -- ---- a number
 
-pub none : (text : List ℕ) → length text ≡ 0 → NoNumber ≡ decimal_in text
+pub none : (text : List ℕ) → length text ≡ 0 → None ≡ decimal_in text
 unfolding decimal_in
 none [] e = refl
 none (b ∷ bs) e = absurd (omega arith)
@@ -48,7 +48,7 @@ pub starts : (text : List ℕ) → (length text ≡ 0 → ⊥) → Reading text 
 starts text n = record { within = omega arith; small = omega arith; left = some text n }
 
 module _ (text : List ℕ) {v i : ℕ} (R : Reading text v i) where
-  pub ends : length text ≤ i → Number v ≡ decimal_in text
+  pub ends : length text ≤ i → Some v ≡ decimal_in text
   unfolding value_on
   ends h = sym (R.left ∙ ap (value_on v) (drop_of_length-le text {i = i} h))
 
@@ -56,11 +56,11 @@ module _ (text : List ℕ) {v i : ℕ} (R : Reading text v i) where
     next : decimal_in text ≡ value_on v (b ∷ drop (suc i) text)
     next = R.left ∙ ap (value_on v) (drop-cons text i 0 l ∙ rw e)
 
-    pub below : b < 48 → NoNumber ≡ decimal_in text
+    pub below : b < 48 → None ≡ decimal_in text
     unfolding value_on
     below h = sym (next ∙ rw (value_on, lt-leb 48 b h))
 
-    pub above : 48 ≤ b → 57 < b → NoNumber ≡ decimal_in text
+    pub above : 48 ≤ b → 57 < b → None ≡ decimal_in text
     unfolding value_on
     above g h = sym (next ∙ rw (value_on, le-leb 48 b g, lt-leb b 57 h))
 

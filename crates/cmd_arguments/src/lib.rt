@@ -2,110 +2,72 @@
 // or writes.
 #![tactic(auto)]
 
-ghost use Rattle.std.specs.Prelude.{◌≡◌, ◌+◌, ◌≤◌, min, eqb};
+ghost use Rattle.std.specs.Prelude.{◌≡◌, ◌+◌, ◌≤◌, eqb};
+ghost use Rattle.answers.specs.Answers.{answer_from};
 ghost use Rattle.answers.specs.Buffers.{Put};
-ghost use Rattle.cmd_arguments.specs.Decimal.{most, decimal_in};
+ghost use Rattle.cmd_arguments.specs.Decimal.{decimal_in};
 ghost use Rattle.cmd_arguments.specs.Reading.{got_of};
 ghost use Rattle.cmd_arguments.specs.Streams.{output_of, error_of};
 
-use answers::Answer;
+use answers::Refusal;
 
 // ---- arguments
 
-// A text as a number.
-#[derive(Clone, Copy)]
-pub enum Argument {
-    Number(usize),
-    NoNumber,
-}
+// Larger numbers count as this one, which each question about a number of blocks or a width refuses.
+const MOST: usize = 10000;
 
-// The value of one or more decimal digits, those above 10,000 as 10,000.
-pub fn decimal(text: &[u8]) -> Argument
+/// The value of one or more decimal digits; none of any other text.
+pub fn decimal(text: &[u8]) -> Option<usize>
     ensures { result ≡ decimal_in text.now }
 {
-    if text.len() == 0 {
-        return Argument::NoNumber;
+    if text.is_empty() {
+        return None;
     }
     let mut v = 0;
-    let mut i = 0;
-    while i < text.len() {
-        let b = wide(text[i]);
-        if b < 48 {
-            return Argument::NoNumber;
-        }
-        if 57 < b {
-            return Argument::NoNumber;
-        }
-        v = capped(v * 10 + (b - 48));
-        i += 1;
+    for b in text {
+        let digit = match b {
+            b'0'..=b'9' => b - b'0',
+            _ => return None,
+        };
+        v = (v * 10 + usize::from(digit)).min(MOST);
     }
-    Argument::Number(v)
-}
-
-fn capped(v: usize) -> usize
-    ensures { result ≡ min v most }
-{
-    if v < 10000 { v } else { 10000 }
-}
-
-// A read of a slice asks only for the index, where a cast of it would ask too that the byte fits.
-fn wide(x: u8) -> usize
-    ensures { result ≡ x }
-{
-    x as usize
+    Some(v)
 }
 
 // Whether what a program was started with, its own name among it, is k arguments.
 pub fn are_arguments(all: usize, k: usize) -> bool
     ensures { result ≡ eqb all (k + 1) }
 {
-    if all == 0 {
-        return false;
-    }
-    all - 1 == k
+    0 < all && all - 1 == k
 }
 
 // ---- what is read
 
-// So many bytes at the front of a buffer; or a failure, which was told.
-#[derive(Clone, Copy)]
-pub struct Got {
-    pub failed: bool,
-    pub count: usize,
-}
-
-// What a count that is short of the buffer, and the answer of one more read, come to.
-pub fn short_read(count: usize, after: isize) -> Got
-    ensures { (result ≡ got_of count after) × (result.count ≤ count) }
+/// The count that a reading gave; none where it failed, however much was read before: an error is not the end of the input.
+pub fn short_read<E: Drop>(reading: Result<usize, E>) -> Option<usize>
+    ensures { result ≡ got_of reading }
 {
-    if after == 0 {
-        Got {
-            failed: false,
-            count,
-        }
-    } else {
-        Got {
-            failed: true,
-            count: 0,
-        }
-    }
+    reading.ok()
 }
 
 // ---- what is written
 
-// How many of the bytes made go to standard output: all, or none where the call was refused.
-pub fn output_length(answer: Answer, made: usize) -> usize
-    ensures { (result ≡ output_of answer made) × (result ≤ made) }
+/// How many of the bytes made go to standard output: all, or none where the call was refused.
+pub fn output_length(answer: Result<usize, Refusal>, made: usize) -> usize
+    ensures { (result ≡ output_of (answer_from answer) made) × (result ≤ made) }
 {
-    if answer.number == 0 { made } else { 0 }
+    match answer {
+        Ok(_) => made,
+        Err(_) => 0,
+    }
 }
 
-// The text for standard error, over the front of line: the line of a refusal, or nothing.
-pub fn error_text(answer: Answer, line: &mut [u8; 53]) -> usize
-    ensures { Put line.old 0 (error_of answer) result line.new }
+/// The text for standard error, over the front of line: the line of a refusal, or nothing.
+pub fn error_text(answer: Result<usize, Refusal>, line: &mut [u8; 53]) -> usize
+    ensures { Put line.old 0 (error_of (answer_from answer)) result line.new }
 {
-    if answer.number == 0 {
-        return 0;
+    match answer {
+        Ok(_) => 0,
+        Err(refusal) => cmd_text::put_refusal(line, refusal),
     }
-    cmd_text::put_refusal(line, answer)
 }

@@ -11,6 +11,10 @@ use lib.ListN.{length, get_or, take, set, length-append, length-set}
 use lib.Seq.{take-suc, take_all, length-take-le, drop-drop}
 use borrow.Rule.Slice.PartMut.{put_mid}
 use borrow.Author.Tests.{ne_eqb, eqb-true, eqb-false}
+use Rattle.answers.specs.declared.Reason.{Reason}
+use Rattle.answers.specs.declared.Reason.TheVariants.{Places, Width, BlockBytes, BitCount, LogRoom, Entry, BitByte, NextByte, ShortestForm, FormNumber, FillBits, InputEnd, OutputRoom, Place, OneLength, SmallOrder, Words}
+use Rattle.answers.specs.declared.Refusal.{Refusal}
+use Rattle.answers.specs.Answers.{number_of}
 use Rattle.answers.specs.Buffers.{overlay, Put}
 use Rattle.answers.proofs.Buffers.{overlay_none, overlay-one, overlay_more, overlay-length}
 use Rattle.answers.proofs.Putting.{put_then}
@@ -157,3 +161,26 @@ refusal_fits q p h g =
     let a : length (decimal q) ≤ 20 = digits_few 19 q (let z : q < 100000000000000000000 = omega arith in z) in
     let b : length (decimal p) ≤ 20 = digits_few 19 p (let z : p < 100000000000000000000 = omega arith in z) in
     simp length-append (omega (arith, a, b))
+
+-- .. so each refusal's
+number_few : (r : Reason) → number_of r < 2 ^ 64
+number_few Places = omega arith
+number_few Width = omega arith
+number_few BlockBytes = omega arith
+number_few BitCount = omega arith
+number_few LogRoom = omega arith
+number_few Entry = omega arith
+number_few BitByte = omega arith
+number_few NextByte = omega arith
+number_few ShortestForm = omega arith
+number_few FormNumber = omega arith
+number_few FillBits = omega arith
+number_few InputEnd = omega arith
+number_few OutputRoom = omega arith
+number_few Place = omega arith
+number_few OneLength = omega arith
+number_few SmallOrder = omega arith
+number_few Words = omega arith
+
+pub refused_fits : (r : Refusal) → r.place < 2 ^ 64 → length (refusal_line (number_of r.reason) r.place) ≤ 53
+refused_fits r h = refusal_fits (number_of r.reason) r.place (number_few r.reason) h
