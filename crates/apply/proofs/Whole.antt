@@ -8,7 +8,7 @@ use native.Mathlib.Omega.{arith}
 use lib.ListN.{length}
 use Rattle.answers.specs.declared.Answer.{Answer}
 use Rattle.answers.specs.Answers.{accepted}
-use Rattle.answers.specs.Questions.{Verdict, all_yes, no_at, first_no}
+use Rattle.answers.specs.Questions.{Verdict, all_yes, first_no}
 use Rattle.answers.specs.Buffers.{overlay}
 use Rattle.answers.specs.Outcomes.{answer_of, logged, settled_logged}
 use Rattle.answers.proofs.Buffers.{overlay_whole}
@@ -31,12 +31,6 @@ use Rattle.apply_layers.proofs.Runs.{many}
 use Rattle.apply_questions.specs.Questions.{apply_questions}
 use Rattle.apply.specs.Calls.{apply_call_in, inverse_call_in}
 use Rattle.apply_questions.proofs.Asked.{Fits, passes, asked_well}
-
--- a first no: the answer of the questions, and both buffers as they were
-turned_away : (v : Verdict) (count : ℕ) (words b entries l : List ℕ) {a : Answer} → a ≡ answer_of v 0 → (a.number ≡ 0 → ⊥)
-    → logged a b l ≡ settled_logged v count words b entries l
-turned_away all_yes count words b entries l e h = absurd (h (ap (λ a. a.number) e))
-turned_away (no_at q p) count words b entries l e h = rw e
 
 -- the switches of the whole are all entries
 all_switches : (t : Topology) (n : ℕ) → switches_of (whole_of t n) 0 ≡ apply_entries (wiring_of t) n
@@ -62,56 +56,50 @@ module _ (t : Topology) (n width : ℕ) (b bits l : List ℕ) where
   abbrev verdict : Verdict
   verdict = first_no (apply_questions n width (length b) bits (length l))
 
-  module _ {asked : Answer} (told : asked ≡ answer_of verdict 0) where
-    pub apply_refused : (asked.number ≡ 0 → ⊥) → logged asked b l ≡ apply_call_in (wiring_of t) n width b bits l
-    apply_refused h = turned_away verdict (W n) (moved (wiring_of t) n width bits b) b (words (apply_entries (wiring_of t) n)) l told h
+  -- the questions were asked, and passed
+  module _ (told : accepted 0 ≡ answer_of verdict 0) where
+    well : verdict ≡ all_yes
+    well = asked_well n width (length b) bits (length l) 0 (sym (ap (λ a. a.number) told))
 
-    pub inverse_refused : (asked.number ≡ 0 → ⊥) → logged asked b l ≡ inverse_call_in (wiring_of t) n width b bits l
-    inverse_refused h = turned_away verdict (W n) (moved_back (wiring_of t) n width bits b) b (words (inverse_entries (wiring_of t) n)) l told h
+    fits : Fits n width (length b) bits (length l)
+    fits = passes n width (length b) bits (length l) well
 
-    module _ (z : asked.number ≡ 0) where
-      well : verdict ≡ all_yes
-      well = asked_well n width (length b) bits (length l) 0 (sym (ap (λ a. a.number) told) ∙ z)
+    pub lent : Lent width 0 (W n) 0 b bits l × Inside (0 + blocks_in width b) (whole_of t n)
+    lent =
+        let f = fits in
+        let all = many n width b f.low f.whole in (
+          record {
+            places = rw all (omega arith);
+            wide = f.low;
+            narrow = f.high;
+            whole = rw all (sym f.whole);
+            enough = omega arith;
+            room = omega arith;
+            short = omega (arith, switches_few n f.places);
+            settings = f.settings;
+          },
+          rw all (record { apart = omega arith; lies = λ i h. omega arith }),
+        )
 
-      fits : Fits n width (length b) bits (length l)
-      fits = passes n width (length b) bits (length l) well
-
-      pub lent : Lent width 0 (W n) 0 b bits l × Inside (0 + blocks_in width b) (whole_of t n)
-      lent =
+    module _ {b' l' : List ℕ} {count : ℕ} {a : Answer} (reports : a ≡ accepted count) (counted : count ≡ 0 + W n)
+        (kept : length b' ≡ length b) where
+      pub apply_settles : Ran width bits (switches_of (whole_of t n) 0) 0 0 b l b' l'
+          → logged a b' l' ≡ apply_call_in (wiring_of t) n width b bits l
+      unfolding moved
+      apply_settles ran =
           let f = fits in
-          let all = many n width b f.low f.whole in (
-            record {
-              places = rw all (omega arith);
-              wide = f.low;
-              narrow = f.high;
-              whole = rw all (sym f.whole);
-              enough = omega arith;
-              room = omega arith;
-              short = omega (arith, switches_few n f.places);
-              settings = f.settings;
-            },
-            rw all (record { apart = omega arith; lies = λ i h. omega arith }),
-          )
+          settles n width verdict (forward [] (wiring_of t) (network n) bits (cut width n b)) well reports (counted ∙ zero-add (W n))
+          f.low
+          f.whole kept
+          (run_apply [] (lawful t) n bits (cut width n b) (length_cut width n b)) (rw (all_switches t n) at ran)
 
-      module _ {b' l' : List ℕ} {count : ℕ} {a : Answer} (reports : a ≡ accepted count) (counted : count ≡ 0 + W n)
-          (kept : length b' ≡ length b) where
-        pub apply_settles : Ran width bits (switches_of (whole_of t n) 0) 0 0 b l b' l'
-            → logged a b' l' ≡ apply_call_in (wiring_of t) n width b bits l
-        unfolding moved
-        apply_settles ran =
-            let f = fits in
-            settles n width verdict (forward [] (wiring_of t) (network n) bits (cut width n b)) well reports (counted ∙ zero-add (W n))
-            f.low
-            f.whole kept
-            (run_apply [] (lawful t) n bits (cut width n b) (length_cut width n b)) (rw (all_switches t n) at ran)
-
-        pub inverse_settles : Ran width bits (reverse (switches_of (whole_of t n) (back_from bits 0 (W n)))) 0 0 b l b' l'
-            → logged a b' l' ≡ inverse_call_in (wiring_of t) n width b bits l
-        unfolding moved_back inverse_entries
-        inverse_settles ran =
-            let f = fits in
-            let all : back_from bits 0 (W n) ≡ 0 = omega (arith, f.count) in
-            settles n width verdict (backward [] (wiring_of t) (network n) bits (cut width n b)) well reports (counted ∙ zero-add (W n))
-            f.low
-            f.whole kept
-            (run_inverse [] (lawful t) n bits (cut width n b) (length_cut width n b)) (rw (all, all_switches t n) at ran)
+      pub inverse_settles : Ran width bits (reverse (switches_of (whole_of t n) (back_from bits 0 (W n)))) 0 0 b l b' l'
+          → logged a b' l' ≡ inverse_call_in (wiring_of t) n width b bits l
+      unfolding moved_back inverse_entries
+      inverse_settles ran =
+          let f = fits in
+          let all : back_from bits 0 (W n) ≡ 0 = omega (arith, f.count) in
+          settles n width verdict (backward [] (wiring_of t) (network n) bits (cut width n b)) well reports (counted ∙ zero-add (W n))
+          f.low
+          f.whole kept
+          (run_inverse [] (lawful t) n bits (cut width n b) (length_cut width n b)) (rw (all, all_switches t n) at ran)

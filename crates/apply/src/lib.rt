@@ -4,9 +4,13 @@
 #![tactic(auto)]
 
 ghost use Rattle.std.specs.Prelude.{◌≡◌};
+ghost use Rattle.answers.specs.Answers.{answer_from};
 ghost use Rattle.answers.specs.Outcomes.{logged};
 ghost use Rattle.wirings.specs.Nets.{wiring_of};
 ghost use Rattle.apply.specs.Calls.{apply_call, inverse_call, apply_call_in, inverse_call_in};
+
+use answers::Refusal;
+use wirings::Topology;
 
 // 01: mix.
 pub fn apply(
@@ -15,30 +19,27 @@ pub fn apply(
     blocks: &mut [u8],
     bits: &[u8],
     log: &mut [u16],
-) -> answers::Answer
-    ensures { logged result blocks.new log.new
+) -> Result<usize, Refusal>
+    ensures { logged (answer_from result) blocks.new log.new
         ≡ apply_call n width blocks.old bits.now log.old }
 {
-    apply_in(wirings::Topology::Paper, n, width, blocks, bits, log)
+    apply_in(Topology::Paper, n, width, blocks, bits, log)
 }
 
 // Mix in the wiring t (02, F-6).
 pub fn apply_in(
-    t: wirings::Topology,
+    t: Topology,
     n: usize,
     width: usize,
     blocks: &mut [u8],
     bits: &[u8],
     log: &mut [u16],
-) -> answers::Answer
-    ensures { logged result blocks.new log.new
+) -> Result<usize, Refusal>
+    ensures { logged (answer_from result) blocks.new log.new
         ≡ apply_call_in (wiring_of t) n width blocks.old bits.now log.old }
 {
-    let asked = apply_questions::ask(n, width, blocks.len(), bits, log.len());
-    if asked.number != 0 { // nothing is written
-        return asked;
-    }
-    answers::accept(apply_forward::run(blocks, width, t, n, 0, 1, bits, log, 0))
+    apply_questions::ask(n, width, blocks.len(), bits, log.len())?; // a refused call writes nothing
+    Ok(apply_forward::run(blocks, width, t, n, 0, 1, bits, log, 0))
 }
 
 // 01: return.
@@ -48,28 +49,25 @@ pub fn apply_inverse(
     blocks: &mut [u8],
     bits: &[u8],
     log: &mut [u16],
-) -> answers::Answer
-    ensures { logged result blocks.new log.new
+) -> Result<usize, Refusal>
+    ensures { logged (answer_from result) blocks.new log.new
         ≡ inverse_call n width blocks.old bits.now log.old }
 {
-    apply_inverse_in(wirings::Topology::Paper, n, width, blocks, bits, log)
+    apply_inverse_in(Topology::Paper, n, width, blocks, bits, log)
 }
 
 // Return in the wiring t (02, F-6).
 pub fn apply_inverse_in(
-    t: wirings::Topology,
+    t: Topology,
     n: usize,
     width: usize,
     blocks: &mut [u8],
     bits: &[u8],
     log: &mut [u16],
-) -> answers::Answer
-    ensures { logged result blocks.new log.new
+) -> Result<usize, Refusal>
+    ensures { logged (answer_from result) blocks.new log.new
         ≡ inverse_call_in (wiring_of t) n width blocks.old bits.now log.old }
 {
-    let asked = apply_questions::ask(n, width, blocks.len(), bits, log.len());
-    if asked.number != 0 {
-        return asked;
-    }
-    answers::accept(apply_backward::run_back(blocks, width, t, n, 0, 1, bits, log, 0))
+    apply_questions::ask(n, width, blocks.len(), bits, log.len())?;
+    Ok(apply_backward::run_back(blocks, width, t, n, 0, 1, bits, log, 0))
 }
