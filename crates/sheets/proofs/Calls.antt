@@ -4,27 +4,26 @@ use mathlib.Core.Path.{◌≡◌, refl, sym, ap, ◌∙◌}
 use mathlib.Core.List.{List}
 use Prim.Native.Nat.{ℕ, ◌≤◌, ◌<◌}
 use lib.ListN.{length, take}
+use Rattle.std.specs.Prelude.{Ok, Err}
 use Rattle.answers.specs.declared.Answer.{Answer}
-use Rattle.answers.specs.Answers.{refusal, accepted}
-use Rattle.answers.specs.Questions.{Question, first_bad, all_yes, no_at, first_no}
+use Rattle.answers.specs.declared.Refusal.{Refusal}
+use Rattle.answers.specs.Answers.{refusal, accepted, number_of}
+use Rattle.answers.specs.Questions.{first_bad, all_yes, no_at, first_no}
 use Rattle.answers.specs.Buffers.{overlay}
 use Rattle.answers.specs.Outcomes.{outcome}
 use Rattle.answers.proofs.Questions.{yes_each, asked-both, asked-first}
 use Rattle.answers.proofs.Outcomes.{ends_refused, ends-accepted}
 use Rattle.bits.specs.Bits.{is_bit}
 use Rattle.counts.specs.Counts.{W}
-use Rattle.numbers.specs.Reading.{read_of}
-use Rattle.numbers.specs.declared.ReadNumber.{ReadNumber}
-use Rattle.numbers.specs.declared.ReadNumber.TheVariants.{Number, Refused}
 use Rattle.numbers.specs.Numbers.{sevens}
-use Rattle.numbers.proofs.Numbers.{Got, got_number, got_refused}
-use Rattle.rows.specs.Rows.{numbers_at, place_past, Row}
+use Rattle.numbers.specs.declared.Number.{Number}
+use Rattle.rows.specs.Rows.{numbers_at}
 use Rattle.questions.proofs.Lists.{first_no_lem}
 use Rattle.questions.proofs.Asked.{few_yes, few_no, count_yes, count_no, bits_yes, bits_no, room_yes, room_no}
 use Rattle.sheets.specs.Sheet.{numbers_for, sheet}
 use Rattle.sheets.specs.Reading.{bits_in}
 use Rattle.sheets.specs.Calls.{write_questions, write_sheet, places_in, fourteens_at, head_questions, body_questions, bits_from, read_questions, read_sheet, setting_in}
-use Rattle.sheets.proofs.Asking.{head_sized}
+use Rattle.sheets.proofs.Asking.{HeadOf, head_sized, BodyOf}
 
 -- ---- write sheet
 
@@ -74,60 +73,44 @@ module _ (n : ℕ) (bits out : List ℕ) {a : Answer} where
 
 -- ---- read sheet
 
-module _ (input : List ℕ) (room : ℕ) {head : ReadNumber} (e : head ≡ read_of (first_no (head_questions input room)) (places_in input) (fourteens_at input)) where
-  pub head_stops : {q p : ℕ} → head ≡ Refused q p → first_no (read_questions input room) ≡ no_at q p
+module _ (input : List ℕ) (room : ℕ) where
+  pub head_stops : (r : Refusal) → HeadOf input room (Err r) → first_no (read_questions input room) ≡ no_at (number_of r.reason) r.place
   unfolding read_questions
-  head_stops t =
-      asked-first (head_questions input room) (body_questions input (W (places_in input)) (fourteens_at input))
-      (got_refused (first_no (head_questions input room)) (places_in input) (fourteens_at input) (sym t ∙ e))
+  head_stops r e = asked-first (head_questions input room) (body_questions input (W (places_in input)) (fourteens_at input)) e
 
-  module _ {n at : ℕ} (t : head ≡ Number n at) where
-    head_got : Got (first_no (head_questions input room)) (places_in input) (fourteens_at input) n at
-    head_got = got_number (first_no (head_questions input room)) (places_in input) (fourteens_at input) (sym t ∙ e)
+  module _ {head : Number} (H : HeadOf input room (Ok head)) where
+    pub read_count : head.value ≡ places_in input
+    read_count = ap (λ (x : Number). x.value) H.1
 
-    pub head_few : n ≤ 1024
-    head_few = rw head_got.value (head_sized input room head_got.asked).few
+    next_is : head.next ≡ fourteens_at input
+    next_is = ap (λ (x : Number). x.next) H.1
 
-    pub head_fits : W n ≤ room
-    head_fits = rw head_got.value (head_sized input room head_got.asked).fits
+    pub head_few : head.value ≤ 1024
+    head_few = rw read_count (head_sized input room H.0).few
 
-    module _
-        {w : ℕ} {values : List ℕ} {body : ReadNumber} (c : w ≡ W n)
-        (R : Row (body_questions input w at) (numbers_for w) (place_past sevens (numbers_for w) input at) (numbers_for w) (numbers_at sevens (numbers_for w) input at) values body)
-      where
-        same : body_questions input w at ≡ body_questions input (W (places_in input)) (fourteens_at input)
-        same = rw (c, head_got.value, head_got.place)
+    pub head_fits : W head.value ≤ room
+    head_fits = rw read_count (head_sized input room H.0).fits
 
-        to_body : first_no (read_questions input room) ≡ first_no (body_questions input w at)
-        unfolding read_questions
-        to_body = asked-both (head_questions input room) (body_questions input (W (places_in input)) (fourteens_at input)) head_got.asked ∙ sym (ap first_no same)
+    module _ {w : ℕ} (c : w ≡ W head.value) where
+      same : body_questions input w head.next ≡ body_questions input (W (places_in input)) (fourteens_at input)
+      same = rw (c, read_count, next_is)
 
-        pub body_stops : {q p : ℕ} → body ≡ Refused q p → first_no (read_questions input room) ≡ no_at q p
-        body_stops s = to_body ∙ got_refused (first_no (body_questions input w at)) (numbers_for w) (place_past sevens (numbers_for w) input at) (sym s ∙ R.answer)
+      to_body : first_no (read_questions input room) ≡ first_no (body_questions input w head.next)
+      unfolding read_questions
+      to_body = asked-both (head_questions input room) (body_questions input (W (places_in input)) (fourteens_at input)) H.0 ∙ sym (ap first_no same)
 
-        module _ {k end : ℕ} (s : body ≡ Number k end) where
-          body_got : Got (first_no (body_questions input w at)) (numbers_for w) (place_past sevens (numbers_for w) input at) k end
-          body_got = got_number (first_no (body_questions input w at)) (numbers_for w) (place_past sevens (numbers_for w) input at) (sym s ∙ R.answer)
+      pub body_stops : {values : List ℕ} (r : Refusal) → BodyOf input w head.next values (Err r) → first_no (read_questions input room) ≡ no_at (number_of r.reason) r.place
+      body_stops r R = to_body ∙ R.answer
 
-          pub read_passes : first_no (read_questions input room) ≡ all_yes
-          read_passes = to_body ∙ body_got.asked
+      module _ {values : List ℕ} {k : ℕ} (R : BodyOf input w head.next values (Ok k)) where
+        pub read_passes : first_no (read_questions input room) ≡ all_yes
+        read_passes = to_body ∙ R.answer.0
 
-          pub read_count : n ≡ places_in input
-          read_count = head_got.value
-
-          pub read_bits : take w (bits_in (take k values)) ≡ setting_in input
-          unfolding bits_from setting_in
-          read_bits =
-              let row : take k values ≡ numbers_at sevens (numbers_for w) input at = rw body_got.value (R.numbers body_got.asked) in
-              rw row (rw (c, head_got.value, head_got.place))
-
--- how many numbers a row has put there
-pub row_count :
-    {qs : List Question} {a b m : ℕ} {row values : List ℕ} {r : ReadNumber} {k end : ℕ}
-    → Row qs a b m row values r
-    → r ≡ Number k end
-    → k ≡ a
-row_count {qs} {a} {b} R s = (got_number (first_no qs) a b (sym s ∙ R.answer)).value
+        pub read_bits : take w (bits_in (take k values)) ≡ setting_in input
+        unfolding bits_from setting_in
+        read_bits =
+            let row : take k values ≡ numbers_at sevens (numbers_for w) input head.next = rw R.answer.1 (R.numbers R.answer.0) in
+            rw row (rw (c, read_count, next_is))
 
 module _ (input bits : List ℕ) {a : Answer} where
   pub read_refused : {q p : ℕ} → first_no (read_questions input (length bits)) ≡ no_at q p → a ≡ refusal q p → outcome a bits ≡ read_sheet input bits

@@ -3,12 +3,13 @@
 use mathlib.Core.Path.{◌≡◌, refl, sym, ap, ◌∙◌}
 use mathlib.Core.Bool.{true}
 use mathlib.Core.List.{List, [], ◌++◌, append_assoc, append-nil}
-use Prim.Native.Nat.{ℕ, ◌+◌, ◌-◌, ◌≤◌}
+use Prim.Native.Nat.{ℕ, ◌+◌, ◌≤◌}
 use native.Mathlib.Omega.{arith}
 use lib.ListN.{length, take, drop, length-append}
 use lib.Seq.{take_all}
 use Rattle.answers.specs.Answers.{accepted}
-use Rattle.answers.specs.Questions.{all_yes, first_no}
+use Rattle.std.specs.Prelude.{Ok}
+use Rattle.answers.specs.Questions.{all_yes, first_no, Numbered}
 use Rattle.answers.specs.Buffers.{overlay}
 use Rattle.answers.specs.Outcomes.{outcome}
 use Rattle.answers.proofs.Questions.{each_yes}
@@ -18,9 +19,8 @@ use Rattle.bits.specs.Bits.{Bits}
 use Rattle.bits.proofs.Bytes.{all_bits_lem}
 use Rattle.counts.specs.Counts.{W}
 use Rattle.numbers.specs.Numbers.{number_bytes, number_questions, sevens, Reads}
-use Rattle.numbers.specs.declared.ReadNumber.TheVariants.{Number}
 use Rattle.numbers.proofs.Numbers.{numbered, number-back}
-use Rattle.rows.specs.Rows.{numbers_bytes, numbers_questions, numbers_at, place_past}
+use Rattle.rows.specs.Rows.{numbers_bytes, numbers_questions, numbers_at, place_past, row_end}
 use Rattle.rows.proofs.Rows.{Back, row_back, numbered_row}
 use Rattle.rows.proofs.Reading.{RowOf}
 use Rattle.questions.proofs.Asked.{few_means, count_means, bits_means, room_means}
@@ -67,11 +67,11 @@ module _ (n : ℕ) (bits : List ℕ) (few : n ≤ 1024) (count : length bits ≡
 
   row_of :
       RowOf sevens (sheet n bits) (length front) (numbers_for (W n)) numbers
-      (Number (place_past sevens (numbers_for (W n) - 1) (sheet n bits) (length front)) (place_past sevens (numbers_for (W n)) (sheet n bits) (length front)))
+      (Ok (row_end sevens (numbers_for (W n)) (sheet n bits) (length front)))
   row_of =
       let asked : first_no (numbers_questions sevens (numbers_for (W n)) (sheet n bits) (length front)) ≡ all_yes = rw long at row_there.asked in
       let there : numbers_at sevens (numbers_for (W n)) (sheet n bits) (length front) ≡ numbers = rw long at row_there.numbers in
-      record { answer = rw asked; numbers = λ y. take_all (numbers_for (W n)) numbers (omega (arith, long)) ∙ sym there }
+      record { answer = (asked, refl); numbers = λ y. take_all (numbers_for (W n)) numbers (omega (arith, long)) ∙ sym there }
 
   whole : length (sheet n bits) ≤ place_past sevens (numbers_for (W n)) (sheet n bits) (length front)
   unfolding front
@@ -93,12 +93,12 @@ module _ (n : ℕ) (bits : List ℕ) (few : n ≤ 1024) (count : length bits ≡
       let k = numbers_for (W n) in
       let all : take k numbers ≡ numbers = take_all k numbers (omega (arith, long)) in
       let fill : true ≡ all_zero (drop (W n) (bits_in (take k numbers))) = rw all (sym (fill_back bits (W n) h count)) in
-      let head = head_done s (length buffer) form_there refl places_there few g refl in
-      let body = body_done s (W n) (length front) {values = numbers} refl row_of fill whole in
+      let head = head_done s (length buffer) form_there refl places_there few g in
+      let body = body_done s (W n) (length front) {values = numbers} row_of fill whole in
       let back : take (W n) (bits_in (take k numbers)) ≡ bits = rw all (setting-back bits (W n) h count) in
       sym
-      (read_accepted s buffer (read_passes s (length buffer) head refl refl body refl) (ap accepted (read_count s (length buffer) head refl refl body refl))
-      (ap (overlay buffer 0) (sym back ∙ read_bits s (length buffer) head refl refl body refl)))
+      (read_accepted s buffer (read_passes s (length buffer) head refl body) (ap accepted (read_count s (length buffer) head))
+      (ap (overlay buffer 0) (sym back ∙ read_bits s (length buffer) head refl body)))
 
 -- ---- when write sheet is accepted
 
@@ -124,17 +124,20 @@ write_only n bits out e =
 
 -- ---- when read sheet is accepted
 
--- number 0 only where every question gets a yes
-pub read_only : (input buffer : List ℕ) → (read_sheet input buffer).answer.number ≡ 0 → first_no (read_questions input (length buffer)) ≡ all_yes
-unfolding read_sheet read_questions head_questions body_questions
-read_only input buffer e =
-    accepted_when (read_questions input (length buffer)) (places_in input)
-    (numbered_both (head_questions input (length buffer)) (body_questions input (W (places_in input)) (fourteens_at input))
+-- each question's number is above 0
+pub numbered_read : (input : List ℕ) (room : ℕ) → Numbered (read_questions input room)
+unfolding read_questions head_questions body_questions
+numbered_read input room =
+    numbered_both (head_questions input room) (body_questions input (W (places_in input)) (fourteens_at input))
     (numbered_both (number_questions input 0) _ (numbered input 0)
     (omega arith, numbered_both (number_questions input (places_at input)) _ (numbered input (places_at input)) (omega arith, (omega arith, tt))))
     (numbered_both (numbers_questions sevens (numbers_for (W (places_in input))) input (fourteens_at input)) _
-    (numbered_row sevens input (numbered input) (numbers_for (W (places_in input))) (fourteens_at input)) (omega arith, (omega arith, tt))))
-    e
+    (numbered_row sevens input (numbered input) (numbers_for (W (places_in input))) (fourteens_at input)) (omega arith, (omega arith, tt)))
+
+-- number 0 only where every question gets a yes
+pub read_only : (input buffer : List ℕ) → (read_sheet input buffer).answer.number ≡ 0 → first_no (read_questions input (length buffer)) ≡ all_yes
+unfolding read_sheet
+read_only input buffer e = accepted_when (read_questions input (length buffer)) (places_in input) (numbered_read input (length buffer)) e
 
 -- ---- the round trip: what an accepted write wrote is read back as n and those bits, into any buffer with room for them
 

@@ -1,6 +1,6 @@
 -- The setting in a sheet: its length, its bits, and what reading it into room for the longest setting comes to.
 -- Assumes nothing.
-use mathlib.Core.Path.{◌≡◌, refl, sym, ap, ◌∙◌}
+use mathlib.Core.Path.{◌≡◌, sym, ap, ◌∙◌}
 use mathlib.Core.List.{List}
 use Prim.Native.Nat.{ℕ, ◌*◌, ◌≤◌}
 use native.Mathlib.Nat.{mod-lt}
@@ -8,26 +8,27 @@ use native.Mathlib.Omega.{arith}
 use native.Mathlib.Decide.{dec_lt}
 use lib.ListN.{length, take, get_or-eq_default, length-take}
 use lib.Seq.{length-take-le}
+use Rattle.std.specs.Prelude.{Ok, Err}
 use Rattle.answers.specs.declared.Answer.{Answer}
+use Rattle.answers.specs.declared.Refusal.{Refusal}
+use Rattle.answers.specs.Answers.{number_of, answer_from}
 use Rattle.answers.specs.Questions.{Verdict, all_yes, no_at, first_no}
 use Rattle.answers.specs.Outcomes.{answer_of, buffer_of, Outcome, outcome}
 use Rattle.answers.proofs.Questions.{both_pass}
+use Rattle.answers.proofs.Results.{err_no, ok_yes}
 use Rattle.answers.proofs.Buffers.{overlay_taken}
 use Rattle.bits.specs.Bits.{Bits}
 use Rattle.counts.specs.Counts.{W}
 use Rattle.numbers.specs.Numbers.{sevens}
-use Rattle.numbers.specs.Reading.{read_of}
-use Rattle.numbers.specs.declared.ReadNumber.{ReadNumber}
-use Rattle.numbers.specs.declared.ReadNumber.TheVariants.{Number, Refused}
-use Rattle.numbers.proofs.Numbers.{Got, got_number, got_refused}
 use Rattle.rows.specs.Rows.{numbers_at}
 use Rattle.rows.proofs.Rows.{numbers_length}
+use Rattle.sheets.specs.declared.SettingSize.{SettingSize}
 use Rattle.sheets.specs.Sheet.{numbers_for}
 use Rattle.sheets.specs.Reading.{bits_in}
 use Rattle.sheets.specs.Calls.{places_in, fourteens_at, head_questions, body_questions, bits_from, read_questions, setting_in, read_sheet, SettingOutcome, setting_outcome, read_setting}
 use Rattle.sheets.proofs.Asking.{Sized, head_sized}
 use Rattle.sheets.proofs.Unpacking.{bits_length, bit_at, bits_take}
-use Rattle.sheets.proofs.Round.{read_only}
+use Rattle.sheets.proofs.Round.{numbered_read}
 
 -- a bit for each switch
 pub setting-length : (sheet : List ℕ) → length (setting_in sheet) ≡ W (places_in sheet)
@@ -57,73 +58,79 @@ passed_sized sheet room e =
 
 -- ---- what `read_sheet` leaves in room for the longest setting, return by return of `read_setting`
 
-module _ (sheet before : List ℕ) (room : length before ≡ 9217) {read : Answer} {bits : List ℕ} (e : outcome read bits ≡ read_sheet sheet before) where
+module _ (sheet before : List ℕ) (room : length before ≡ 9217) where
   abbrev verdict : Verdict
   verdict = first_no (read_questions sheet 9217)
 
-  told : read ≡ answer_of verdict (places_in sheet)
-  unfolding read_sheet
-  told = ap (λ (o : Outcome). o.answer) e ∙ rw room
+  module _ {a : Answer} {bits : List ℕ} (e : outcome a bits ≡ read_sheet sheet before) where
+    told : a ≡ answer_of verdict (places_in sheet)
+    unfolding read_sheet
+    told = ap (λ (o : Outcome). o.answer) e ∙ rw room
 
-  left : bits ≡ buffer_of verdict (setting_in sheet) before
-  unfolding read_sheet
-  left = ap (λ (o : Outcome). o.buffer) e ∙ rw room
+    left : bits ≡ buffer_of verdict (setting_in sheet) before
+    unfolding read_sheet
+    left = ap (λ (o : Outcome). o.buffer) e ∙ rw room
 
-  pub setting_refused : (read.number ≡ 0 → ⊥) → setting_outcome (Refused read.number read.place) bits ≡ read_setting sheet before
+  pub setting_refused : {bits : List ℕ} (r : Refusal) → outcome (answer_from (Err r)) bits ≡ read_sheet sheet before → setting_outcome (Err r) bits ≡ read_setting sheet before
   unfolding read_setting
-  setting_refused h = go verdict refl
-    where
-      go : (v : Verdict) → verdict ≡ v → setting_outcome (Refused read.number read.place) bits ≡ read_setting sheet before
-      go all_yes t = absurd (h (ap (λ (a : Answer). a.number) told ∙ rw t))
-      go (no_at q p) t =
-          let is : read ≡ answer_of (no_at q p) (places_in sheet) = told ∙ rw t in
-          rw (is, left, t)
+  setting_refused r e =
+      let no : verdict ≡ no_at (number_of r.reason) r.place = err_no (λ n. n) r verdict (places_in sheet) (told e) in
+      rw (left e, no)
 
-  module _ (z : read.number ≡ 0) where
+  module _ {bits : List ℕ} {n : ℕ} (e : outcome (answer_from (Ok n)) bits ≡ read_sheet sheet before) where
     passed : verdict ≡ all_yes
-    passed = rw (← room) (read_only sheet before (sym (ap (λ (o : Outcome). o.answer.number) e) ∙ z))
+    passed = ok_yes (λ n. n) (read_questions sheet 9217) (numbered_read sheet 9217) n (places_in sheet) (told e)
 
-    places : read.count ≡ places_in sheet
-    places = ap (λ (a : Answer). a.count) told ∙ rw passed
+    places : n ≡ places_in sheet
+    places = ap (λ (a : Answer). a.count) (told e) ∙ rw passed
 
-    pub read_few : read.count ≤ 1024
+    pub read_few : n ≤ 1024
     read_few = rw places (passed_sized sheet 9217 passed).few
 
-    pub setting_read : {w : ℕ} → w ≡ W read.count → setting_outcome (Number read.count w) bits ≡ read_setting sheet before
+    pub setting_read : {w : ℕ} → w ≡ W n → setting_outcome (Ok (record { places = n; switches = w })) bits ≡ read_setting sheet before
     unfolding read_setting
-    setting_read c = rw (left, passed, c, places)
+    setting_read c = rw (left e, passed, c, places)
 
 -- ---- what a caller of `read_setting` has
 
-module _ (sheet before : List ℕ) {bits : List ℕ} {r : ReadNumber} (e : setting_outcome r bits ≡ read_setting sheet before) where
-  setting-told : r ≡ read_of (first_no (read_questions sheet 9217)) (places_in sheet) (W (places_in sheet))
+module _ (sheet before : List ℕ) where
+  setting-told : {o : SettingOutcome} → o ≡ read_setting sheet before → o.answer ≡ answer_of (first_no (read_questions sheet 9217)) 0
   unfolding read_setting
-  setting-told = ap (λ (o : SettingOutcome). o.read) e
+  setting-told e = ap (λ (o : SettingOutcome). o.answer) e
 
-  pub setting_stops : {q p : ℕ} → r ≡ Refused q p → first_no (read_questions sheet 9217) ≡ no_at q p
-  setting_stops t = got_refused (first_no (read_questions sheet 9217)) (places_in sheet) (W (places_in sheet)) (sym t ∙ setting-told)
+  pub setting_stops : {bits : List ℕ} (r : Refusal) → setting_outcome (Err r) bits ≡ read_setting sheet before
+      → first_no (read_questions sheet 9217) ≡ no_at (number_of r.reason) r.place
+  setting_stops r e = err_no {A = SettingSize} (λ _. 0) r (first_no (read_questions sheet 9217)) 0 (setting-told e)
 
-  module _ {n w : ℕ} (t : r ≡ Number n w) where
-    pub setting_got : Got (first_no (read_questions sheet 9217)) (places_in sheet) (W (places_in sheet)) n w
-    setting_got = got_number (first_no (read_questions sheet 9217)) (places_in sheet) (W (places_in sheet)) (sym t ∙ setting-told)
+  module _ {bits : List ℕ} {s : SettingSize} (e : setting_outcome (Ok s) bits ≡ read_setting sheet before) where
+    pub setting_asked : first_no (read_questions sheet 9217) ≡ all_yes
+    setting_asked = ok_yes (λ _. 0) (read_questions sheet 9217) (numbered_read sheet 9217) s 0 (setting-told e)
 
-    pub setting_few : n ≤ 1024
-    setting_few = rw setting_got.value (passed_sized sheet 9217 setting_got.asked).few
+    pub setting_places : s.places ≡ places_in sheet
+    unfolding read_setting
+    setting_places = ap (λ (o : SettingOutcome). o.places) e ∙ rw setting_asked
 
-    pub setting_fits : W n ≤ 9217
-    setting_fits = rw setting_got.value (passed_sized sheet 9217 setting_got.asked).fits
+    setting_switches : s.switches ≡ W (places_in sheet)
+    unfolding read_setting
+    setting_switches = ap (λ (o : SettingOutcome). o.switches) e ∙ rw setting_asked
 
-    pub setting_there : take w bits ≡ setting_in sheet
+    pub setting_few : s.places ≤ 1024
+    setting_few = rw setting_places (passed_sized sheet 9217 setting_asked).few
+
+    pub setting_fits : W s.places ≤ 9217
+    setting_fits = rw setting_places (passed_sized sheet 9217 setting_asked).fits
+
+    pub setting_there : take s.switches bits ≡ setting_in sheet
     unfolding read_setting
     setting_there =
-        rw setting_got.place
-        (overlay_taken before (ap (λ (o : SettingOutcome). o.bits) e ∙ rw setting_got.asked) (setting-length sheet))
+        rw setting_switches
+        (overlay_taken before (ap (λ (o : SettingOutcome). o.bits) e ∙ rw setting_asked) (setting-length sheet))
 
-    pub setting_room : w ≤ length bits
-    setting_room = omega (arith, ap length setting_there, setting-length sheet, setting_got.place, length-take w bits)
+    pub setting_room : s.switches ≤ length bits
+    setting_room = omega (arith, ap length setting_there, setting-length sheet, setting_switches, length-take s.switches bits)
 
-    pub setting-count : length (take w bits) ≡ W n
-    setting-count = ap length setting_there ∙ setting-length sheet ∙ sym (ap W setting_got.value)
+    pub setting-count : length (take s.switches bits) ≡ W s.places
+    setting-count = ap length setting_there ∙ setting-length sheet ∙ sym (ap W setting_places)
 
-    pub setting_are_bits : Bits (take w bits)
+    pub setting_are_bits : Bits (take s.switches bits)
     setting_are_bits = rw setting_there (setting_bits sheet)

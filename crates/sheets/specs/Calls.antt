@@ -1,15 +1,18 @@
 -- The two calls on sheets, whole (01, 'The questions': Write sheet, Read sheet).
 -- Assumes nothing: these are definitions.
-use Rattle.std.specs.Prelude.{◌≡◌, List, [], ◌∷◌, ◌++◌, ℕ, ◌-◌, ◌≤◌, leb, eqb, length, take, drop}
+use Rattle.std.specs.Prelude.{◌≡◌, List, [], ◌∷◌, ◌++◌, ℕ, ◌-◌, ◌≤◌, leb, eqb, length, take, drop, Result, Ok, Err}
+use Rattle.answers.specs.declared.Answer.{Answer}
+use Rattle.answers.specs.declared.Refusal.{Refusal}
+use Rattle.answers.specs.Answers.{refusal, accepted, number_of}
 use Rattle.answers.specs.Questions.{Question, ask, first_no}
-use Rattle.answers.specs.Outcomes.{buffer_of, Outcome, settled}
+use Rattle.answers.specs.Outcomes.{answer_of, buffer_of, beside_of, Outcome, settled}
 use Rattle.bits.specs.Bits.{Bits}
 use Rattle.counts.specs.Counts.{W}
 use Rattle.numbers.specs.Numbers.{number_questions, number_at, sevens}
-use Rattle.numbers.specs.Reading.{read_of}
-use Rattle.numbers.specs.declared.ReadNumber.{ReadNumber}
+use Rattle.numbers.specs.declared.Number.{Number}
 use Rattle.rows.specs.Rows.{numbers_questions, numbers_at, place_past}
 use Rattle.questions.specs.Asked.{places_few, bits_for, all_bits, ends_at, room_for}
+use Rattle.sheets.specs.declared.SettingSize.{SettingSize}
 use Rattle.sheets.specs.Sheet.{numbers_for, sheet}
 use Rattle.sheets.specs.Reading.{bits_in, all_zero}
 
@@ -53,6 +56,10 @@ places_in input = (number_at input (places_at input)).value
 abbrev pub fourteens_at : List ℕ → ℕ
 fourteens_at input = (number_at input (places_at input)).next
 
+-- n, with the place after it
+abbrev pub head_in : List ℕ → Number
+head_in input = record { value = places_in input; next = fourteens_at input }
+
 -- form, n, 4
 unfoldable pub head_questions : List ℕ → ℕ → List Question
 head_questions input room =
@@ -90,14 +97,22 @@ read_sheet input buffer =
 -- ---- .. into room for the longest setting: n and W(n), or the refusal, and the bits
 
 pub record SettingOutcome : Type 0 where
-  pub read : ReadNumber
+  pub answer : Answer
+  pub places : ℕ
+  pub switches : ℕ
   pub bits : List ℕ
 
-abbrev pub setting_outcome : ReadNumber → List ℕ → SettingOutcome
-setting_outcome r bits = record { read = r; bits = bits }
+-- the two numbers that stand beside the answer are 0 in a refusal
+abbrev pub setting_outcome : Result SettingSize Refusal → List ℕ → SettingOutcome
+setting_outcome (Ok s) bits = record { answer = accepted 0; places = s.places; switches = s.switches; bits = bits }
+setting_outcome (Err r) bits = record { answer = refusal (number_of r.reason) r.place; places = 0; switches = 0; bits = bits }
 
 -- the setting over the front of the bits where every question gets a yes, and else the bits as they were
 unfoldable pub read_setting : List ℕ → List ℕ → SettingOutcome
 read_setting input bits =
-    setting_outcome (read_of (first_no (read_questions input 9217)) (places_in input) (W (places_in input)))
-    (buffer_of (first_no (read_questions input 9217)) (setting_in input) bits)
+    record {
+      answer = answer_of (first_no (read_questions input 9217)) 0;
+      places = beside_of (first_no (read_questions input 9217)) (places_in input);
+      switches = beside_of (first_no (read_questions input 9217)) (W (places_in input));
+      bits = buffer_of (first_no (read_questions input 9217)) (setting_in input) bits;
+    }
