@@ -7,4 +7,4 @@ use Rattle.cmd_usage.proofs.put_subject.Goals as goal
 
 pub returns : goal.returns
 returns c =
-    put_three (text ": ") c.args.what.now c.put_name-a.ensures.0 (subject_room c.args.program c.args.what.now c.requires) c.put_text-b.ensures c.put_text.ensures
+    put_three (text ": ") c.args.what.now (rw c.name.ensures.0 at c.put_text-a.ensures) (subject_room c.args.program c.args.what.now c.requires) c.put_text-b.ensures c.put_text.ensures
