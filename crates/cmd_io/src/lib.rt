@@ -2,12 +2,11 @@
 // chosen from it can be (crates cmd_usage and cmd_arguments).
 #![tactic(auto)]
 
-ghost use Rattle.std.specs.Prelude.{◌≤◌, length, IfOk};
+ghost use Rattle.std.specs.Prelude.{◌≤◌, length, IfOk, IfSome};
 ghost use Rattle.io.specs.Counts.{IsPrefixLen};
 ghost use Rattle.cmd_arguments.specs.Decimal.{Spelled};
 
-use answers::Answer;
-use cmd_arguments::{Argument, Got};
+use answers::Refusal;
 use cmd_usage::Program;
 use std::env::{Env, FillError};
 use std::fs::{Files, OpenOptions};
@@ -42,40 +41,38 @@ fn argument_count(rt: &HostRuntime) -> usize {
     usize::MAX
 }
 
-// The number that argument k is, which must be the last one. Where there is none, that is told.
-pub fn last_number(rt: &HostRuntime, program: Program, k: usize) -> Argument
+/// The number that argument k is, which must be the last one. Where there is none, that is told.
+pub fn last_number(rt: &HostRuntime, program: Program, k: usize) -> Option<usize>
     ensures { Spelled result }
 {
     if misused(rt, program, k) {
-        return Argument::NoNumber;
+        return None;
     }
-    let argument = number_argument(rt, k);
-    if let Argument::NoNumber = argument {
+    let number = number_argument(rt, k);
+    if number.is_none() {
         tell_usage(rt, program);
     }
-    argument
+    number
 }
 
-fn number_argument(rt: &HostRuntime, k: usize) -> Argument
+fn number_argument(rt: &HostRuntime, k: usize) -> Option<usize>
     ensures { Spelled result }
 {
     let mut text = io::buffer();
     match rt.arg(k, &mut text) {
         Ok(n) => cmd_arguments::decimal(&text[..n]),
-        Err(_) => cmd_arguments::decimal(b""),
+        Err(_) => None,
     }
 }
 
 fn tell_usage(rt: &HostRuntime, program: Program) {
-    let mut line = [0u8; 53];
-    let n = cmd_usage::usage_text(program, &mut line);
-    let _ = rt.stderr().write_all(&line[..n]);
+    let _ = rt.stderr().write_all(program.usage());
 }
 
 // ---- what failed
 
 // Tells it, with the system's own words for the error.
-fn fail(rt: &HostRuntime, program: Program, what: &[u8], error: Error)
+fn fail(rt: &HostRuntime, program: Program, what: &[u8], error: &Error)
     requires { length what.now ≤ 4096 }
 {
     let mut subject = [0u8; 4106];
@@ -109,63 +106,52 @@ fn read_from<R: Read>(
     what: &[u8],
     reader: &mut R,
     buf: &mut [u8],
-) -> Got
+) -> Option<usize>
     requires { length what.now ≤ 4096 }
-    ensures { IsPrefixLen result.count buf.new }
+    ensures { IfSome result (λ n. IsPrefixLen n buf.new) }
 {
-    match read_full(reader, buf) {
-        Ok(n) => cmd_arguments::short_read(n, 0),
-        Err(error) => {
-            fail(rt, program, what, error);
-            cmd_arguments::short_read(0, -1)
-        }
+    let reading = read_full(reader, buf);
+    if let Err(error) = &reading {
+        fail(rt, program, what, error);
     }
+    cmd_arguments::short_read(reading)
 }
 
-// As much of standard input as buf holds.
-pub fn read_input(rt: &HostRuntime, program: Program, buf: &mut [u8]) -> Got
-    ensures { IsPrefixLen result.count buf.new }
+/// As much of standard input as buf holds; none where it cannot be read, which is told.
+pub fn read_input(rt: &HostRuntime, program: Program, buf: &mut [u8]) -> Option<usize>
+    ensures { IfSome result (λ n. IsPrefixLen n buf.new) }
 {
     read_from(rt, program, b"standard input", &mut rt.stdin(), buf)
 }
 
-// The start of the file that argument k names, as much as buf holds.
-pub fn read_named(rt: &HostRuntime, program: Program, k: usize, buf: &mut [u8]) -> Got
-    ensures { IsPrefixLen result.count buf.new }
+/// The start of the file that argument k names, as much as buf holds; none where it cannot be read, which is told.
+pub fn read_named(rt: &HostRuntime, program: Program, k: usize, buf: &mut [u8]) -> Option<usize>
+    ensures { IfSome result (λ n. IsPrefixLen n buf.new) }
 {
     let mut path = io::buffer();
     match rt.arg(k, &mut path) {
         Ok(p) => read_file(rt, program, &path[..p], buf),
-        Err(FillError::TooLong) => unread(
-            rt,
-            program,
-            b"",
-            Error::from_raw_os_error(NAME_TOO_LONG),
-        ),
-        Err(FillError::NotPresent) => unread(
-            rt,
-            program,
-            b"",
-            Error::from_raw_os_error(INVALID_ARGUMENT),
-        ),
+        Err(error) => {
+            let number = match error {
+                FillError::TooLong => NAME_TOO_LONG,
+                FillError::NotPresent => INVALID_ARGUMENT,
+            };
+            fail(rt, program, b"", &Error::from_raw_os_error(number));
+            None
+        }
     }
 }
 
-fn unread(rt: &HostRuntime, program: Program, path: &[u8], error: Error) -> Got
+fn read_file(rt: &HostRuntime, program: Program, path: &[u8], buf: &mut [u8]) -> Option<usize>
     requires { length path.now ≤ 4096 }
-    ensures { result.count ≤ 0 }
-{
-    fail(rt, program, path, error);
-    cmd_arguments::short_read(0, -1)
-}
-
-fn read_file(rt: &HostRuntime, program: Program, path: &[u8], buf: &mut [u8]) -> Got
-    requires { length path.now ≤ 4096 }
-    ensures { IsPrefixLen result.count buf.new }
+    ensures { IfSome result (λ n. IsPrefixLen n buf.new) }
 {
     match open(rt, path) {
         Ok(mut file) => read_from(rt, program, path, &mut file, buf),
-        Err(error) => unread(rt, program, path, error),
+        Err(error) => {
+            fail(rt, program, path, &error);
+            None
+        }
     }
 }
 
@@ -179,7 +165,7 @@ fn open(rt: &HostRuntime, path: &[u8]) -> Result<std::fs::File, Error> {
 
 // ---- what is written
 
-fn write_error(rt: &HostRuntime, answer: Answer) {
+fn write_error(rt: &HostRuntime, answer: Result<usize, Refusal>) {
     let mut line = [0u8; 53];
     let n = cmd_arguments::error_text(answer, &mut line);
     let _ = rt.stderr().write_all(&line[..n]);
@@ -188,13 +174,42 @@ fn write_error(rt: &HostRuntime, answer: Answer) {
 // All of it to standard output; where that does not take it, this is told.
 pub fn write_output(rt: &HostRuntime, program: Program, made: &[u8]) {
     if let Err(error) = rt.stdout().write_all(made) {
-        fail(rt, program, b"standard output", error);
+        fail(rt, program, b"standard output", &error);
     }
 }
 
-// What was made or the refusal, each to its stream.
-pub fn finish(rt: &HostRuntime, program: Program, answer: Answer, made: &[u8]) {
+/// What was made or the refusal, each to its stream.
+pub fn finish(rt: &HostRuntime, program: Program, answer: Result<usize, Refusal>, made: &[u8]) {
     let n = cmd_arguments::output_length(answer, made.len());
     write_output(rt, program, &made[..n]);
     write_error(rt, answer);
+}
+
+// ---- a whole program
+
+/// Moves the blocks on standard input, each of as many bytes as argument 2 says, by the sheet in the file that argument 1
+/// names. `sheet` and `blocks` are room for what is read.
+pub fn move_blocks<F>(
+    rt: &HostRuntime,
+    program: Program,
+    sheet: &mut [u8],
+    blocks: &mut [u8],
+    moved: F,
+)
+where
+    F: FnOnce(&[u8], usize, &mut [u8]) -> Result<usize, Refusal>,
+    requires { F.IsAlwaysCallable moved }
+{
+    let Some(width) = last_number(rt, program, 2) else {
+        return;
+    };
+    let Some(sheet_length) = read_named(rt, program, 1, sheet) else {
+        return;
+    };
+    let Some(length) = read_input(rt, program, blocks) else {
+        return;
+    };
+    let blocks = &mut blocks[..length];
+    let answer = moved(&sheet[..sheet_length], width, blocks);
+    finish(rt, program, answer, blocks);
 }
