@@ -1,10 +1,9 @@
 -- The call from its questions: a refusal, and the accepted call. What each question gets: questions, proofs/Asked.
 -- Assumes nothing.
-use mathlib.Core.Path.{◌≡◌, sym, ap, ◌∙◌}
+use mathlib.Core.Path.{◌≡◌, refl, sym, ap, ◌∙◌}
 use mathlib.Core.List.{List}
 use Prim.Native.Nat.{ℕ}
 use lib.ListN.{length}
-use Rattle.answers.specs.declared.Answer.{Answer}
 use Rattle.answers.specs.Answers.{refusal, accepted}
 use Rattle.answers.specs.Questions.{all_yes, no_at, first_no}
 use Rattle.answers.specs.Outcomes.{logged}
@@ -20,17 +19,15 @@ use Rattle.control.specs.Calls.{set_questions, set_call_in}
 
 module _ (order bits log : List ℕ) where
   -- a refused call: nothing is written
-  pub refused : (w : Wiring) {a : Answer} {bits' log' : List ℕ} (q p : ℕ) → first_no (set_questions order bits log) ≡ no_at q p
-      → a ≡ refusal q p → bits' ≡ bits
-      → log' ≡ log → logged a bits' log' ≡ set_call_in w order bits log
-  refused w q p e r b l = logged_refused _ _ _ _ _ _ e r b l
+  pub refused : (w : Wiring) (q p : ℕ) → first_no (set_questions order bits log) ≡ no_at q p → logged (refusal q p) bits log ≡ set_call_in w order bits log
+  refused w q p e = logged_refused _ _ _ _ _ _ e refl refl refl
 
   -- an accepted call: what the setter left
-  pub taken : (w : Wiring) {a : Answer} {bits' log' : List ℕ} (count : ℕ) → first_no (set_questions order bits log) ≡ all_yes
+  pub taken : (w : Wiring) {bits' log' : List ℕ} (count : ℕ) → first_no (set_questions order bits log) ≡ all_yes
       → SetsIn w order log count bits' log'
-      → length bits' ≡ length bits → a ≡ accepted count → logged a bits' log' ≡ set_call_in w order bits log
-  taken w count e S k r =
+      → length bits' ≡ length bits → logged (accepted count) bits' log' ≡ set_call_in w order bits log
+  taken w count e S k =
       logged-accepted (first_no (set_questions order bits log)) (E (length order)) (setting_for w order) bits
-      (words (set_entries w (length order))) log e (r ∙ ap accepted S.count)
+      (words (set_entries w (length order))) log e (ap accepted S.count)
       (S.bits_are ∙ sym (overlay_whole bits (setting_for w order) (ap length (sym S.bits_are) ∙ k)))
       S.log_is
