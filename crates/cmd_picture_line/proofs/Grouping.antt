@@ -54,10 +54,10 @@ module _ (ys zs ws : List ℕ) {a : List ℕ} {at : ℕ} {xs : List ℕ} {r : �
 pub output_within : (n : ℕ) → 2 ≤ n → output_at n ≤ W n
 output_within n h = omega (arith, W_more n h)
 
-pub groups_are : (n : ℕ) (cs : List ℕ) {top bottom : ℕ} → top ≡ W (up n) → bottom ≡ W (n - up n)
-    → groups (top_at n) (top_at n + top) (top_at n + top + bottom) cs ≡ grouped n cs
+pub groups_are : (n : ℕ) (cs : List ℕ) {k top bottom : ℕ} → k ≡ up n → top ≡ W k → bottom ≡ W (n - k)
+    → groups (k - 1) (k - 1 + top) (k - 1 + top + bottom) cs ≡ grouped n cs
 unfolding grouped
-groups_are n cs e f = rw (e, f)
+groups_are n cs u e f = rw (e, f, u)
 
 -- the columns from c on, as the code takes them
 pub tail_is : (c : ℕ) (cs : List ℕ) → take (length cs - c) (drop c cs) ≡ drop c cs

@@ -13,7 +13,7 @@ pub fn put_line(out: &mut [u8], at: usize, n: usize, columns: &[u8]) -> usize
         × (at + length (grouped n columns.now ++ text "\n") ≤ length out.old) }
     ensures { Put out.old at (grouped n columns.now ++ text "\n") result out.new }
 {
-    let k = (n + 1) / 2;
+    let k = n.div_ceil(2);
     let top = k - 1;
     let bottom = top + counts::switches(k);
     let output = bottom + counts::switches(n - k);
@@ -35,7 +35,7 @@ fn put_group(out: &mut [u8], at: usize, columns: &[u8]) -> usize
     requires { at + length (group columns.now) ≤ length out.old }
     ensures { Put out.old at (group columns.now) result out.new }
 {
-    if columns.len() == 0 {
+    if columns.is_empty() {
         return at;
     }
     let end = cmd_text::put_text(out, at, columns);
@@ -47,7 +47,7 @@ pub fn put_label(out: &mut [u8], at: usize, place: usize) -> usize
     requires { (place < 100) × (at + 3 ≤ length out.old) }
     ensures { Put out.old at (label place) result out.new }
 {
-    let text = [tens(place), 48 + (place % 10) as u8, 32];
+    let text = [tens(place), b'0' + (place % 10) as u8, b' '];
     cmd_text::put_text(out, at, &text)
 }
 
@@ -56,8 +56,8 @@ fn tens(place: usize) -> u8
     ensures { result ≡ high_digit place }
 {
     if place < 10 {
-        32
+        b' '
     } else {
-        48 + (place / 10) as u8
+        b'0' + (place / 10) as u8
     }
 }
