@@ -3,23 +3,20 @@
 #![tactic(auto)]
 
 ghost use Rattle.std.specs.Prelude.{◌≡◌, ◌≤◌, ◌<◌, eqb, length};
+ghost use Rattle.answers.specs.Answers.{answer_with};
 ghost use Rattle.answers.specs.Questions.{first_bad, first_no};
 ghost use Rattle.answers.specs.Outcomes.{answer_of};
 ghost use Rattle.permutation.specs.Permutations.{bit, fixed_points};
 ghost use Rattle.record_questions.specs.Questions.{good_in_record, record_asks};
 
-fn wide(x: u16) -> usize
-    ensures { result ≡ x }
-{
-    x as usize
-}
+use answers::{Reason, Refusal};
 
 // 1 where the entry x at place i stays home, in 16 bits so that a loop takes several entries at a time.
 pub fn home(x: u16, i: usize) -> u16
     requires { i < 1024 }
     ensures { (result ≡ bit (eqb x i)) × (result ≤ 1) }
 {
-    (x == i as u16) as u16
+    u16::from(x == i as u16)
 }
 
 // Question 6 of a record's entries: its list, and past that nothing but 0. 1,024 where nothing is bad.
@@ -28,10 +25,8 @@ fn first_bad(n: usize, e: &[u16]) -> usize
     ensures { result ≡ first_bad (good_in_record n e.now) 1024 }
 {
     let mut low = permutation::first_bad_entry(&e[..n]);
-    let mut i = n;
-    while i < 1024 {
+    for i in n..1024 {
         low = permutation::sweep(low, i, e[i] == 0);
-        i += 1;
     }
     low
 }
@@ -41,31 +36,28 @@ fn fixed_points(list: &[u16]) -> usize
     requires { length list.now ≤ 1024 }
     ensures { result ≡ fixed_points list.now }
 {
-    let n = list.len();
     let mut c = 0u16;
-    let mut i = 0;
-    while i < n {
-        c += home(list[i], i);
-        i += 1;
+    for (i, x) in list.iter().enumerate() {
+        c += home(*x, i);
     }
-    wide(c)
+    usize::from(c)
 }
 
 // Questions 1 and 6 of a record handed in.
-pub fn examine(n: usize, e: &[u16], fixed: usize) -> answers::Answer
+pub fn examine(n: usize, e: &[u16], fixed: usize) -> Result<(), Refusal>
     requires { length e.now ≡ 1024 }
-    ensures { result ≡ answer_of (first_no (record_asks n e.now fixed)) 0 }
+    ensures { answer_with (λ _. 0) result ≡ answer_of (first_no (record_asks n e.now fixed)) 0 }
 {
     if counts::MOST_PLACES < n {
-        return answers::refuse(1, 0);
+        return Err(Refusal::of(Reason::Places));
     }
     let low = first_bad(n, e);
     if low < 1024 {
-        return answers::refuse(6, low);
+        return Err(Refusal::at(Reason::Entry, low));
     }
     let home = fixed_points(&e[..n]);
     if fixed != home {
-        return answers::refuse(6, 1024);
+        return Err(Refusal::at(Reason::Entry, 1024));
     }
-    answers::accept(0)
+    Ok(())
 }

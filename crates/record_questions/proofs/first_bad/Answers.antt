@@ -16,12 +16,12 @@ first_bad_entry-low-requires c = let a = c.args in
 
 pub loop-i-init : goal.loop-i-init
 loop-i-init c = let a = c.args in
-    (omega arith, sweeping_from _ _ _ (omega arith) (c.first_bad_entry-low.ensures ∙ front-bad a.n a.e.now (omega arith)))
+    sweeping_from _ _ _ (omega arith) (c.first_bad_entry-low.ensures ∙ front-bad a.n a.e.now (omega arith))
 
 pub loop-i-preserved : goal.loop-i-preserved
 loop-i-preserved c = let at = c.loop-i in
-    let here = sym (good_past c.args.n c.args.e.now at.i at.invariant.0) in
-    (omega arith, sweeping_more _ _ (omega arith) here c.sweep-low.ensures at.invariant.1)
+    let here = sym (good_past c.args.n c.args.e.now at.i (omega arith)) in
+    sweeping_more _ _ (omega arith) here c.sweep-low.ensures at.invariant
 
 pub returns : goal.returns
-returns c = sweeping_ends _ _ c.loop-i-test.false c.loop-i.invariant.1
+returns c = sweeping_ends _ _ c.loop-i-test.false c.loop-i.invariant

@@ -1,12 +1,8 @@
 -- `record_questions::first_bad` meets its contract.
 -- Assumes nothing.
-use Prim.Native.Nat.{◌-◌, ◌≤◌}
 use Rattle.permutation.proofs.Sweeps.{Sweeping}
 use Rattle.record_questions.specs.Questions.{good_in_record}
 use Rattle.record_questions.proofs.first_bad.Given as goal
 
 abbrev pub invariant-loop-i : goal.invariant-loop-i
-invariant-loop-i l = (l.n ≤ l.i) × Sweeping (good_in_record l.n l.e) 1024 l.low l.i
-
-abbrev pub decreases-loop-i : goal.decreases-loop-i
-decreases-loop-i l = 1024 - l.i
+invariant-loop-i l = Sweeping (good_in_record l.n l.e) 1024 l.low l.i

@@ -6,11 +6,11 @@ use Rattle.record_questions.proofs.Counting.{counting_starts, counting_more, cou
 use Rattle.record_questions.proofs.fixed_points.Goals as goal
 
 pub loop-i-init : goal.loop-i-init
-loop-i-init c = (omega arith, counting_starts _)
+loop-i-init c = counting_starts _
 
 pub loop-i-preserved : goal.loop-i-preserved
-loop-i-preserved c = (omega arith, counting_more _ refl c.home-c.ensures.0 c.loop-i.invariant.1)
+loop-i-preserved c = counting_more _ refl c.home-c.ensures.0 c.loop-i.invariant
 
 pub returns : goal.returns
-returns c = c.wide.ensures
-    ∙ counted _ _ c.args.list.now (omega arith) refl (λ v l. refl) c.loop-i.invariant.1
+returns c = c.from.ensures
+    ∙ counted _ _ c.args.list.now (omega arith) refl (λ v l. refl) c.loop-i.invariant
