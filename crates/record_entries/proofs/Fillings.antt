@@ -7,16 +7,15 @@ use Prim.Native.Nat.{ℕ, ◌+◌, ◌≤◌, ◌<◌}
 use native.Mathlib.Omega.{arith}
 use native.Mathlib.Decide.{ℕ_discrete}
 use lib.ListN.{length, get_or, set, take, replicate, length-replicate, length-set}
-use lib.Seq.{get_or-set_same, get_or-set_other, get_or-take, length-take-le}
-use Rattle.permutation.specs.Permutations.{IsPermutation, combined, inverted, place_of}
+use lib.Seq.{get_or-set_same, get_or-set_other, get_or-take}
+use Rattle.permutation.specs.Permutations.{IsPermutation, combined, fixed_points, inverted, place_of}
 use Rattle.permutation.proofs.Tables.{get_d_blank}
 use Rattle.permutation.proofs.Laws.{combined-length, combined-at}
 use Rattle.permutation.proofs.Inverses.{place-below, place_holds, inverted-at, inverted_permutation}
-use Rattle.record_questions.proofs.Counting.{Counting, counted}
 use Rattle.record_entries.specs.Entries.{padded}
 use Rattle.record_entries.specs.Fillings.{counted_of}
 use Rattle.record_entries.specs.declared.Counted.{Counted}
-use Rattle.record_entries.proofs.Entries.{is_padded_of}
+use Rattle.record_entries.proofs.Entries.{is_padded_of, front_padded}
 
 -- f j stands at `place j` for each j below i, and 0 past n
 pub record Filling (place f : ℕ → ℕ) (n : ℕ) (e : List ℕ) (i : ℕ) : Type 0 where
@@ -64,12 +63,6 @@ pub filled : (f : ℕ → ℕ) (n : ℕ) (es : List ℕ) {e : List ℕ} {i : ℕ
 filled f n es {e} h l k t F =
     is_padded_of n e es F.same h k (λ v m. F.done v (omega (arith, F.within)) ∙ sym (t v m)) F.past
 
--- entries written in their sequence and counted
-pub filled_counted : (f : ℕ → ℕ) (n : ℕ) (es : List ℕ) {e : List ℕ} {c i fixed : ℕ} → n ≤ 1024 → n ≤ i → length es ≡ n
-    → ((v : ℕ) → v < n → get_or es v 0 ≡ f v)
-    → Filling (λ j. j) f n e i → Counting f c i → fixed ≡ c → ◌≡◌ {A = Counted} (record { entries = e; fixed = fixed }) (counted_of es)
-filled_counted f n es h l k t F C w = rw (filled f n es h l k t F, w ∙ counted f n es (omega (arith, F.within)) k t C)
-
 -- each place written where its entry says
 pub filled_back : (n : ℕ) (es : List ℕ) {e : List ℕ} {i : ℕ} → IsPermutation n es → n ≤ 1024 → n ≤ i
     → Filling (λ j. get_or es j 0) (λ j. j) n e i → e ≡ padded (inverted es)
@@ -80,16 +73,18 @@ filled_back n es {e} P h l F =
     ∙ sym (inverted-at n es P v m))
     F.past
 
--- what combining writes at i, read from the records' arrays
-pub combined_read : (n : ℕ) (a b : List ℕ) (i : ℕ) {k : ℕ} → i < n → k ≡ get_or a i 0 → k < n
-    → get_or b k 0 ≡ get_or (take n b) (get_or (take n a) i 0) 0
-combined_read n a b i {k} l e m = rw (get_or-take n a i 0 l, ← e) (sym (get_or-take n b k 0 m))
+-- what combining writes at i, read from the second record's array
+pub combined_read : (n : ℕ) (a b : List ℕ) (i : ℕ) {k : ℕ} → k ≡ get_or (take n a) i 0 → k < n → get_or b k 0 ≡ get_or (take n b) (get_or (take n a) i 0) 0
+combined_read n a b i {k} e m = rw (← e) (sym (get_or-take n b k 0 m))
 
 -- combining, when all is written
-pub combined_filled : (n : ℕ) (a b : List ℕ) {e : List ℕ} {c i fixed : ℕ} → n ≤ 1024 → length a ≡ 1024 → n ≤ i
-    → Filling (λ j. j) (λ j. get_or (take n b) (get_or (take n a) j 0) 0) n e i → Counting (λ j. get_or (take n b) (get_or (take n a) j 0) 0) c i
-    → fixed ≡ c → ◌≡◌ {A = Counted} (record { entries = e; fixed = fixed }) (counted_of (combined (take n a) (take n b)))
-combined_filled n a b h s l F C w =
-    let long : length (take n a) ≡ n = length-take-le n a (omega arith) in
-    filled_counted (λ j. get_or (take n b) (get_or (take n a) j 0) 0) n (combined (take n a) (take n b)) h l
-    (combined-length (take n a) (take n b) ∙ long) (λ v m. combined-at (take n a) (take n b) v (omega arith)) F C w
+pub combined_filled : (n : ℕ) (a b : List ℕ) {e : List ℕ} {i fixed : ℕ} → n ≤ 1024 → IsPermutation n (take n a) → n ≤ i
+    → Filling (λ j. j) (λ j. get_or (take n b) (get_or (take n a) j 0) 0) n e i
+    → fixed ≡ fixed_points (take n e) → ◌≡◌ {A = Counted} (record { entries = e; fixed = fixed }) (counted_of (combined (take n a) (take n b)))
+combined_filled n a b {e} h P l F w =
+    let es = combined (take n a) (take n b) in
+    let whole : length es ≡ n = combined-length (take n a) (take n b) ∙ P.whole in
+    let written : e ≡ padded es =
+    filled (λ j. get_or (take n b) (get_or (take n a) j 0) 0) n es h l whole (λ v m. combined-at (take n a) (take n b) v (omega (arith, P.whole))) F in
+    let front : take n e ≡ es = ap (take n) written ∙ front_padded n es whole in
+    rw (w, front, written)

@@ -15,22 +15,14 @@ pub struct Counted {
     pub fixed: usize,
 }
 
-fn wide(x: u16) -> usize
-    ensures { result ≡ x }
-{
-    x as usize
-}
-
 // 0 .. n - 1.
 pub fn identity(n: usize) -> [u16; 1024]
     requires { n ≤ 1024 }
     ensures { result ≡ padded (identity n) }
 {
     let mut e = [0u16; 1024];
-    let mut i = 0;
-    while i < n {
-        e[i] = i as u16;
-        i += 1;
+    for (i, entry) in e[..n].iter_mut().enumerate() {
+        *entry = i as u16;
     }
     e
 }
@@ -39,32 +31,20 @@ pub fn of_list(list: &[u16]) -> Counted
     requires { length list.now ≤ 1024 }
     ensures { result ≡ counted_of list.now }
 {
-    let n = list.len();
-    let mut e = [0u16; 1024];
-    let mut fixed = 0u16;
-    let mut i = 0;
-    while i < n {
-        let x = list[i];
-        e[i] = x;
-        fixed += record_questions::home(x, i);
-        i += 1;
-    }
+    let mut entries = [0u16; 1024];
+    entries[..list.len()].copy_from_slice(list);
     Counted {
-        entries: e,
-        fixed: wide(fixed),
+        entries,
+        fixed: record_questions::fixed_points(list),
     }
 }
 
-pub fn exchange(entries: [u16; 1024], i: usize, j: usize) -> [u16; 1024]
+pub fn exchange(mut entries: [u16; 1024], i: usize, j: usize) -> [u16; 1024]
     requires { (i < 1024) × (j < 1024) }
     ensures { result ≡ exchanged entries i j }
 {
-    let mut e = entries;
-    let x = e[i];
-    let y = e[j];
-    e[i] = y;
-    e[j] = x;
-    e
+    entries.swap(i, j);
+    entries
 }
 
 // How many entries stay home once x at place i and y at place j are exchanged, from how many do before.
@@ -75,7 +55,7 @@ pub fn fixed_exchanged(fixed: usize, i: usize, x: u16, j: usize, y: u16) -> usiz
 {
     let come = record_questions::home(y, i) + record_questions::home(x, j);
     let gone = record_questions::home(x, i) + record_questions::home(y, j);
-    fixed + wide(come) - wide(gone)
+    fixed + usize::from(come) - usize::from(gone)
 }
 
 // First `first`, then `second`: entry i is second[first[i]].
@@ -83,20 +63,12 @@ pub fn combine(n: usize, first: [u16; 1024], second: [u16; 1024]) -> Counted
     requires { (n ≤ 1024) × IsPermutation n (take n first) }
     ensures { result ≡ counted_of (combined (take n first) (take n second)) }
 {
-    let mut e = [0u16; 1024];
-    let mut fixed = 0u16;
-    let mut i = 0;
-    while i < n {
-        let k = wide(first[i]);
-        let x = second[k];
-        e[i] = x;
-        fixed += record_questions::home(x, i);
-        i += 1;
+    let mut entries = [0u16; 1024];
+    for (i, x) in first[..n].iter().enumerate() {
+        entries[i] = second[usize::from(*x)];
     }
-    Counted {
-        entries: e,
-        fixed: wide(fixed),
-    }
+    let fixed = record_questions::fixed_points(&entries[..n]);
+    Counted { entries, fixed }
 }
 
 pub fn invert(n: usize, f: [u16; 1024]) -> [u16; 1024]
@@ -104,11 +76,8 @@ pub fn invert(n: usize, f: [u16; 1024]) -> [u16; 1024]
     ensures { result ≡ padded (inverted (take n f)) }
 {
     let mut back = [0u16; 1024];
-    let mut i = 0;
-    while i < n {
-        let k = wide(f[i]);
-        back[k] = i as u16;
-        i += 1;
+    for (i, x) in f[..n].iter().enumerate() {
+        back[usize::from(*x)] = i as u16;
     }
     back
 }

@@ -31,8 +31,8 @@ fn first_bad(n: usize, e: &[u16]) -> usize
     low
 }
 
-// How many entries stay home.
-fn fixed_points(list: &[u16]) -> usize
+// How many entries stay home. Public only for the records that calls make.
+pub fn fixed_points(list: &[u16]) -> usize
     requires { length list.now ≤ 1024 }
     ensures { result ≡ fixed_points list.now }
 {

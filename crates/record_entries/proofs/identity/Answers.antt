@@ -1,18 +1,20 @@
 -- `record_entries::identity` meets its contract.
 -- Assumes nothing.
-use mathlib.Core.Path.{refl}
+use mathlib.Core.Path.{◌≡◌, sym, ap, ◌∙◌}
+use mathlib.Core.List.{List, ◌++◌}
+use Prim.Native.Nat.{ℕ}
 use native.Mathlib.Omega.{arith}
-use Rattle.record_entries.proofs.Fillings.{filling_starts, filling_more, filled}
+use lib.ListN.{length, drop, replicate}
+use lib.Seq.{ext_get_or, length-take-le}
 use Rattle.permutation.specs.Permutations.{identity}
 use Rattle.permutation.proofs.Laws.{identity-at, identity-length}
+use Rattle.record_entries.proofs.Entries.{over_zeros}
 use Rattle.record_entries.proofs.identity.Goals as goal
-
-pub loop-i-init : goal.loop-i-init
-loop-i-init c = filling_starts _ _ _
-
-pub loop-i-preserved : goal.loop-i-preserved
-loop-i-preserved c = filling_more _ _ _ (omega arith) (omega arith) refl (omega arith) (λ j l q. omega arith) refl c.loop-i.invariant
 
 pub returns : goal.returns
 returns c = let n = c.args.n in
-    filled _ n (identity n) (omega arith) (omega arith) (identity-length n) (identity-at n) c.loop-i.invariant
+    let long : length c.loop-i.entry-items ≡ n = c.loop-i.auto.entry-items ∙ length-take-le n (replicate 1024 0) (omega arith) in
+    let front : c.loop-i.entry-items ≡ identity n =
+    ext_get_or 0 c.loop-i.entry-items (identity n) (long ∙ sym (identity-length n))
+    (λ j l. c.loop-i.invariant j (omega arith) ∙ sym (identity-at n j (omega arith))) in
+    ap (λ (l : List ℕ). l ++ drop n (replicate 1024 0)) front ∙ over_zeros n (identity n) (identity-length n)
