@@ -1,6 +1,6 @@
 -- What a call on records gives, return by return.
 -- Assumes nothing.
-use mathlib.Core.Path.{◌≡◌, refl, sym, ap, ◌∙◌}
+use mathlib.Core.Path.{◌≡◌, refl, ◌∙◌}
 use mathlib.Core.Logic.{◌≢◌}
 use mathlib.Core.Bool.{◌&&◌}
 use mathlib.Core.List.{List, [], ◌∷◌, ◌++◌}
@@ -10,16 +10,18 @@ use lib.Dec.{ltb, eqb}
 use lib.ListN.{length}
 use borrow.Author.Tests.{le-leb, lt-leb, le-ltb, lt-ltb, eq-eqb, ne_eqb}
 use Rattle.answers.specs.declared.Answer.{Answer}
-use Rattle.answers.specs.Answers.{refusal, accepted}
+use Rattle.std.specs.Prelude.{Ok, Err}
+use Rattle.answers.specs.declared.Refusal.{Refusal}
+use Rattle.answers.specs.Answers.{refusal, accepted, number_of, answer_with}
 use Rattle.answers.specs.Questions.{Question, ask, Verdict, all_yes, no_at, first_no, Numbered}
 use Rattle.answers.specs.Outcomes.{answer_of}
-use Rattle.answers.proofs.Outcomes.{accepted_when}
+use Rattle.answers.proofs.Results.{err_no, ok_yes}
 use Rattle.answers.proofs.Questions.{asked_yes, asked_no, yes_each, asked-both, asked-first, bad_within}
 use Rattle.permutation.specs.Permutations.{good_entry, first_bad_entry, tabulate, identity, exchanged, combined}
 use Rattle.questions.proofs.Lists.{first_no_lem}
 use Rattle.questions.proofs.Asked.{few_yes, few_no, order_yes, order_no}
 use Rattle.records.specs.Records.{record_of, list_of, length_asks, questions_of, WellFormed, exchange_asks, combine_asks, from_list_asks}
-use Rattle.records.specs.Records.{reply, record_after, replied, identity_call, from_list_call, exchange_call, combine_call, fixed_points_call}
+use Rattle.records.specs.Records.{reply, reply_from, record_after, replied, identity_call, from_list_call, exchange_call, combine_call, fixed_points_call}
 use Rattle.records.specs.declared.Permutation.{Permutation}
 
 module _ (qs : List Question) (count : ℕ) (result handed : Permutation) {a : Answer} {p : Permutation} where
@@ -31,27 +33,13 @@ module _ (qs : List Question) (count : ℕ) (result handed : Permutation) {a : A
   unfolding replied
   replies_accepted e r g = rw (e, r, g)
 
--- an answer with a number: the questions stopped there
-pub record Stopped (v : Verdict) (a : Answer) : Type 0 where
-  pub number : ℕ
-  pub place : ℕ
-  pub at : v ≡ no_at number place
-  pub says : a ≡ refusal number place
-
-pub stopped : (v : Verdict) {a : Answer} → a ≡ answer_of v 0 → a.number ≢ 0 → Stopped v a
-stopped all_yes e n = absurd (n (ap (λ (b : Answer). b.number) e))
-stopped (no_at q k) e n = record { number = q; place = k; at = refl; says = e }
-
 -- the questions have numbers
 pub record_numbered : (p : Permutation) → Numbered (questions_of p)
 record_numbered p = (omega arith, (omega arith, (omega arith, tt)))
 
--- an answer with none: the record passed
-pub passed_record : (p : Permutation) {a : Answer} → a ≡ answer_of (first_no (questions_of p)) 0 → a.number ≡ 0 → WellFormed p
-passed_record p e n = accepted_when (questions_of p) 0 (record_numbered p) (sym (ap (λ (b : Answer). b.number) e) ∙ n)
-
-pub accepted_record : (p : Permutation) {a : Answer} → a ≡ answer_of (first_no (questions_of p)) 0 → WellFormed p → a ≡ accepted 0
-accepted_record p e w = e ∙ ap (λ v. answer_of v 0) w
+-- a record whose questions gave no refusal passed them
+pub passed_record : (p : Permutation) (x : Unit {0}) → answer_with (λ (u : Unit {0}). 0) (Ok x) ≡ answer_of (first_no (questions_of p)) 0 → WellFormed p
+passed_record p x e = ok_yes (λ (u : Unit {0}). 0) (questions_of p) (record_numbered p) x 0 e
 
 -- ---- the asking, which looks at the length and the number alone
 
@@ -78,20 +66,23 @@ pub empty_record : record_of (identity 0) ≡ record_of []
 unfolding tabulate
 empty_record = refl
 
-module _ (count : ℕ) (result : Permutation) (p : Permutation) {a : Answer} where
+-- the questions of a record refused: they stopped there
+refused_at : (p : Permutation) (r : Refusal) → answer_with (λ (u : Unit {0}). 0) (Err r) ≡ answer_of (first_no (questions_of p)) 0
+    → first_no (questions_of p) ≡ no_at (number_of r.reason) r.place
+refused_at p r e = err_no (λ (u : Unit {0}). 0) r (first_no (questions_of p)) 0 e
+
+module _ (count : ℕ) (result : Permutation) (p : Permutation) (r : Refusal) where
   -- the first record stops the call
-  pub first_stops : (rs : List Question) → a ≡ answer_of (first_no (questions_of p)) 0 → a.number ≢ 0 → reply a p ≡ replied (questions_of p ++ rs) count result p
-  first_stops rs e n =
-      let S = stopped (first_no (questions_of p)) e n in
-      replies_refused (questions_of p ++ rs) count result p (asked-first (questions_of p) rs S.at) S.says refl
+  pub first_stops : (rs : List Question) → answer_with (λ (u : Unit {0}). 0) (Err r) ≡ answer_of (first_no (questions_of p)) 0
+      → reply_from (Err r) p ≡ replied (questions_of p ++ rs) count result p
+  first_stops rs e = replies_refused (questions_of p ++ rs) count result p (asked-first (questions_of p) rs (refused_at p r e)) refl refl
 
   -- the second record stops it
-  pub second_stops : (q : Permutation) (rs : List Question) → WellFormed p → a ≡ answer_of (first_no (questions_of q)) 0 → a.number ≢ 0
-      → reply a p ≡ replied (questions_of p ++ (questions_of q ++ rs)) count result p
-  second_stops q rs w e n =
-      let S = stopped (first_no (questions_of q)) e n in
+  pub second_stops : (q : Permutation) (rs : List Question) → WellFormed p → answer_with (λ (u : Unit {0}). 0) (Err r) ≡ answer_of (first_no (questions_of q)) 0
+      → reply_from (Err r) p ≡ replied (questions_of p ++ (questions_of q ++ rs)) count result p
+  second_stops q rs w e =
       replies_refused (questions_of p ++ (questions_of q ++ rs)) count result p
-      (asked-both (questions_of p) (questions_of q ++ rs) w ∙ asked-first (questions_of q) rs S.at) S.says refl
+      (asked-both (questions_of p) (questions_of q ++ rs) w ∙ asked-first (questions_of q) rs (refused_at q r e)) refl refl
 
 -- 14, then 15
 exchange_asks_lem : (p : Permutation) (i j : ℕ) → WellFormed p → first_no (exchange_asks p i j) ≡ first_no (ask 14 0 (ltb i p.length && ltb j p.length) ∷ [])
@@ -114,10 +105,6 @@ module _ (p : Permutation) (i j : ℕ) {a : Answer} (w : WellFormed p) where
       → reply a r ≡ exchange_call p i j
   exchange_done k l e g =
       replies_accepted _ _ _ _ (exchange_asks_lem p i j w ∙ asked_yes 14 0 (ltb i p.length && ltb j p.length) [] (rw (lt-ltb i p.length k, lt-ltb j p.length l))) e g
-
-pub combine_second : (p q : Permutation) {a : Answer} → WellFormed p → a ≡ answer_of (first_no (questions_of q)) 0 → a.number ≢ 0 → reply a p ≡ combine_call p q
-combine_second p q w e n =
-    second_stops 0 (record_of (combined (list_of p) (list_of q))) p q (ask 15 0 (eqb p.length q.length) ∷ []) w e n
 
 module _ (p q : Permutation) {a : Answer} (w : WellFormed p) (x : WellFormed q) where
   pub combine_unlike : p.length ≢ q.length → a ≡ refusal 15 0 → reply a p ≡ combine_call p q

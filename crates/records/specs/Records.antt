@@ -1,7 +1,9 @@
 -- The permutation record and its calls (01: open order, a record by value of the length and 1,024 entries, those past the
 -- length 0; 02, F-2: it carries the number of entries that stay home). Assumes nothing: these are definitions.
-use Rattle.std.specs.Prelude.{◌≡◌, ◌&&◌, List, [], ◌∷◌, ◌++◌, ℕ, ◌≤◌, ltb, eqb, length, get_or, take}
+use Rattle.std.specs.Prelude.{Result, Ok, Err, ◌≡◌, ◌&&◌, List, [], ◌∷◌, ◌++◌, ℕ, ◌≤◌, ltb, eqb, length, get_or, take}
 use Rattle.answers.specs.declared.Answer.{Answer}
+use Rattle.answers.specs.declared.Refusal.{Refusal}
+use Rattle.answers.specs.Answers.{refusal, accepted, number_of}
 use Rattle.answers.specs.Questions.{Question, ask, Verdict, all_yes, no_at, first_no}
 use Rattle.answers.specs.Outcomes.{answer_of}
 use Rattle.permutation.specs.Permutations.{IsPermutation, identity, exchanged, combined, inverted, fixed_points}
@@ -61,6 +63,11 @@ from_list_asks es = places_few (length es) ∷ an_order es ∷ []
 -- an answer, and a record
 abbrev pub reply : Answer → Permutation → Reply
 reply a p = record { answer = a; permutation = p }
+
+-- .. from the record that the call made; where it was refused, with the record that it gives back
+abbrev pub reply_from : Result Permutation Refusal → Permutation → Reply
+reply_from (Ok p) handed = reply (accepted 0) p
+reply_from (Err r) handed = reply (refusal (number_of r.reason) r.place) handed
 
 abbrev pub record_after : Verdict → Permutation → Permutation → Permutation
 record_after all_yes result handed = result

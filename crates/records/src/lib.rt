@@ -2,64 +2,61 @@
 #![tactic(auto)]
 
 ghost use Rattle.std.specs.Prelude.{◌≡◌, ◌≤◌, ◌<◌, length};
+ghost use Rattle.answers.specs.Answers.{answer_from, answer_with};
 ghost use Rattle.answers.specs.Questions.{first_no};
 ghost use Rattle.answers.specs.Outcomes.{answer_of};
 ghost use Rattle.permutation.specs.Permutations.{identity, exchanged, combined, inverted};
-ghost use Rattle.records.specs.Records.{questions_of, WellFormed, record_of, list_of, identity_call, from_list_call, exchange_call, combine_call, inverse_call, length_asks, fixed_points_call};
+ghost use Rattle.records.specs.Records.{questions_of, WellFormed, record_of, list_of, reply_from, identity_call, from_list_call, exchange_call, combine_call, inverse_call, length_asks, fixed_points_call};
+
+use answers::{Answer, Reason, Refusal};
 
 // A permutation of 0 .. length - 1 by value; the entries past the length are 0, and `fixed` says how many entries stay home.
 // Any record can arrive: the fields are public, so each call but `fixed_points` asks questions 1 and 6 of what it is handed.
-#[derive(Clone, Copy)]
+#[derive(Clone, Copy, Debug, PartialEq, Eq)]
 pub struct Permutation {
     pub length: usize,
     pub entries: [u16; 1024],
     pub fixed: usize,
 }
 
-// What a call gives: its answer, and a record.
-#[derive(Clone, Copy)]
+// What a call gives: its answer, and a record. 01 has a refused call give back the record that it was handed, so it's no Result.
+#[derive(Clone, Copy, Debug, PartialEq, Eq)]
 pub struct Reply {
-    pub answer: answers::Answer,
+    pub answer: Answer,
     pub permutation: Permutation,
 }
 
+impl Reply {
+    fn of(made: Result<Permutation, Refusal>, handed: Permutation) -> Reply
+        ensures { result ≡ reply_from made handed }
+    {
+        Reply {
+            answer: made.map(|_| 0).into(),
+            permutation: made.unwrap_or(handed),
+        }
+    }
+}
+
 // The one place where a record is made.
-fn build(n: usize, entries: [u16; 1024], fixed: usize) -> Permutation
-    ensures { result ≡ record { length = n; entries = entries; fixed = fixed } }
+fn build(length: usize, entries: [u16; 1024], fixed: usize) -> Permutation
+    ensures { result ≡ record { length = length; entries = entries; fixed = fixed } }
 {
     Permutation {
-        length: n,
+        length,
         entries,
         fixed,
     }
 }
 
-fn give(answer: answers::Answer, permutation: Permutation) -> Reply
-    ensures { result ≡ record { answer = answer; permutation = permutation } }
-{
-    Reply {
-        answer,
-        permutation,
-    }
-}
-
-// Questions 1 and 6 of a record handed in.
-fn examine(p: Permutation) -> answers::Answer
-    ensures { result ≡ answer_of (first_no (questions_of p)) 0 }
-{
-    let e = p.entries;
-    record_questions::examine(p.length, &e, p.fixed)
-}
-
 // What the asking answers: it follows from the length and the number alone. Public only for the call for C, which need not
 // make a record.
-pub fn fixed_points_of(n: usize, fixed: usize) -> answers::Answer
-    ensures { result ≡ answer_of (first_no (length_asks n)) fixed }
+pub fn fixed_points_of(n: usize, fixed: usize) -> Result<usize, Refusal>
+    ensures { answer_from result ≡ answer_of (first_no (length_asks n)) fixed }
 {
     if counts::MOST_PLACES < n {
-        return answers::refuse(1, 0);
+        return Err(Refusal::of(Reason::Places));
     }
-    answers::accept(fixed)
+    Ok(fixed)
 }
 
 // ---- the records that the calls give
@@ -76,8 +73,7 @@ fn list_record(list: &[u16]) -> Permutation
     ensures { result ≡ record_of list.now }
 {
     let made = record_entries::of_list(list);
-    let e = made.entries;
-    build(list.len(), e, made.fixed)
+    build(list.len(), made.entries, made.fixed)
 }
 
 fn exchanged_record(p: Permutation, i: usize, j: usize) -> Permutation
@@ -94,88 +90,111 @@ fn combined_record(first: Permutation, second: Permutation) -> Permutation
     ensures { result ≡ record_of (combined (list_of first) (list_of second)) }
 {
     let n = first.length;
-    let f = first.entries;
-    let s = second.entries;
-    let made = record_entries::combine(n, f, s);
-    let e = made.entries;
-    build(n, e, made.fixed)
+    let made = record_entries::combine(n, first.entries, second.entries);
+    build(n, made.entries, made.fixed)
 }
 
 fn inverted_record(p: Permutation) -> Permutation
     requires { WellFormed p }
     ensures { result ≡ record_of (inverted (list_of p)) }
 {
-    let n = p.length;
-    let e = p.entries;
-    build(n, record_entries::invert(n, e), p.fixed)
+    let entries = record_entries::invert(p.length, p.entries);
+    build(p.length, entries, p.fixed)
 }
 
+// ---- the calls: each asks its questions, and makes a record where all get a yes
+
 impl Permutation {
+    // Questions 1 and 6 of a record handed in.
+    fn examine(&self) -> Result<(), Refusal>
+        ensures { answer_with (λ _. 0) result ≡ answer_of (first_no (questions_of self.now)) 0 }
+    {
+        record_questions::examine(self.length, &self.entries, self.fixed)
+    }
+
+    fn try_identity(n: usize) -> Result<Permutation, Refusal>
+        ensures { reply_from result (record_of (identity 0)) ≡ identity_call n }
+    {
+        if counts::MOST_PLACES < n {
+            return Err(Refusal::of(Reason::Places));
+        }
+        Ok(identity_record(n))
+    }
+
+    fn try_list(list: &[u16]) -> Result<Permutation, Refusal>
+        ensures { reply_from result (record_of (identity 0)) ≡ from_list_call list.now }
+    {
+        if counts::MOST_PLACES < list.len() {
+            return Err(Refusal::of(Reason::Places));
+        }
+        let low = permutation::first_bad_entry(list);
+        if low < list.len() {
+            return Err(Refusal::at(Reason::Entry, low));
+        }
+        Ok(list_record(list))
+    }
+
+    fn try_exchange(self, i: usize, j: usize) -> Result<Permutation, Refusal>
+        ensures { reply_from result self ≡ exchange_call self i j }
+    {
+        self.examine()?;
+        if self.length <= i {
+            return Err(Refusal::of(Reason::Place));
+        }
+        if self.length <= j {
+            return Err(Refusal::of(Reason::Place));
+        }
+        Ok(exchanged_record(self, i, j))
+    }
+
+    fn try_combine(self, second: Permutation) -> Result<Permutation, Refusal>
+        ensures { reply_from result self ≡ combine_call self second }
+    {
+        self.examine()?;
+        second.examine()?;
+        if self.length != second.length {
+            return Err(Refusal::of(Reason::OneLength));
+        }
+        Ok(combined_record(self, second))
+    }
+
+    fn try_inverse(self) -> Result<Permutation, Refusal>
+        ensures { reply_from result self ≡ inverse_call self }
+    {
+        self.examine()?;
+        Ok(inverted_record(self))
+    }
+
     // Each place to itself (01: fresh).
     pub fn identity(n: usize) -> Reply
         ensures { result ≡ identity_call n }
     {
-        if counts::MOST_PLACES < n {
-            return give(answers::refuse(1, 0), identity_record(0));
-        }
-        give(answers::accept(0), identity_record(n))
+        Reply::of(Permutation::try_identity(n), identity_record(0))
     }
 
     pub fn from_list(list: &[u16]) -> Reply
         ensures { result ≡ from_list_call list.now }
     {
-        if counts::MOST_PLACES < list.len() {
-            return give(answers::refuse(1, 0), identity_record(0));
-        }
-        let low = permutation::first_bad_entry(list);
-        if low < list.len() {
-            return give(answers::refuse(6, low), identity_record(0));
-        }
-        give(answers::accept(0), list_record(list))
+        Reply::of(Permutation::try_list(list), identity_record(0))
     }
 
     pub fn exchange(self, i: usize, j: usize) -> Reply
         ensures { result ≡ exchange_call self i j }
     {
-        let asked = examine(self);
-        if asked.number != 0 {
-            return give(asked, self);
-        }
-        if self.length <= i {
-            return give(answers::refuse(14, 0), self);
-        }
-        if self.length <= j {
-            return give(answers::refuse(14, 0), self);
-        }
-        give(asked, exchanged_record(self, i, j))
+        Reply::of(self.try_exchange(i, j), self)
     }
 
     // First self, then second: entry i is second[self[i]].
     pub fn combine(self, second: Permutation) -> Reply
         ensures { result ≡ combine_call self second }
     {
-        let asked = examine(self);
-        if asked.number != 0 {
-            return give(asked, self);
-        }
-        let then = examine(second);
-        if then.number != 0 {
-            return give(then, self);
-        }
-        if self.length != second.length {
-            return give(answers::refuse(15, 0), self);
-        }
-        give(answers::accept(0), combined_record(self, second))
+        Reply::of(self.try_combine(second), self)
     }
 
     pub fn inverse(self) -> Reply
         ensures { result ≡ inverse_call self }
     {
-        let asked = examine(self);
-        if asked.number != 0 {
-            return give(asked, self);
-        }
-        give(asked, inverted_record(self))
+        Reply::of(self.try_inverse(), self)
     }
 
     // The number of entries that stay home as the record carries it, as the count of the answer; the record comes back as it
@@ -183,6 +202,9 @@ impl Permutation {
     pub fn fixed_points(self) -> Reply
         ensures { result ≡ fixed_points_call self }
     {
-        give(fixed_points_of(self.length, self.fixed), self)
+        Reply {
+            answer: fixed_points_of(self.length, self.fixed).into(),
+            permutation: self,
+        }
     }
 }

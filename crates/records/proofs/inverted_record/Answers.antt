@@ -6,8 +6,8 @@ use Rattle.records.proofs.Records.{sound, inverted_sound}
 use borrow.Author.Rules.{rules}
 use Rattle.records.proofs.inverted_record.Goals as goal
 
-pub invert-requires : goal.invert-requires
-invert-requires c = let p = c.args.p in
+pub invert-entries-requires : goal.invert-entries-requires
+invert-entries-requires c = let p = c.args.p in
     let s : length p.entries ≡ 1024 = search rules in
     let S = sound p s c.requires in
     (S.small, S.permutation)
@@ -15,4 +15,4 @@ invert-requires c = let p = c.args.p in
 pub returns : goal.returns
 returns c = let p = c.args.p in
     let s : length p.entries ≡ 1024 = search rules in
-    c.build.ensures ∙ inverted_sound p s (sound p s c.requires) c.invert.ensures
+    c.build.ensures ∙ inverted_sound p s (sound p s c.requires) c.invert-entries.ensures

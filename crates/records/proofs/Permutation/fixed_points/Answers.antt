@@ -5,4 +5,4 @@ use Rattle.records.proofs.Replies.{asking_back}
 use Rattle.records.proofs.Permutation.fixed_points.Goals as goal
 
 pub returns : goal.returns
-returns c = c.give.ensures ∙ asking_back _ c.fixed_points_of.ensures
+returns c = asking_back _ (c.into.ensures ∙ c.fixed_points_of.ensures)
