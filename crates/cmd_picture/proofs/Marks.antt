@@ -1,41 +1,15 @@
--- One mark, one row, and the rows of the first places.
+-- One row, and the rows of the first places.
 -- Assumes nothing.
 use mathlib.Core.Path.{◌≡◌, refl, ◌∙◌}
-use mathlib.Core.Bool.{Bool, true, false, ◌||◌}
 use mathlib.Core.List.{List, ◌++◌}
 use Prim.Native.Nat.{ℕ, zero, suc, ◌+◌, ◌≤◌, ◌<◌}
 use native.Mathlib.Numerals.{add-one}
 use native.Mathlib.Omega.{arith}
 use native.Mathlib.Decide.{dec_lt}
-use borrow.Author.Tests.{eq-eqb, ne_eqb, lt-ltb, le-ltb}
-use lib.Dec.{eqb}
 use lib.ListN.{length, length-append}
 use Rattle.answers.specs.Buffers.{Put}
 use Rattle.answers.proofs.Putting.{put_none, put_then}
-use Rattle.cmd_text.specs.Text.{character}
-use Rattle.cmd_picture.specs.Picture.{mark}
 use Rattle.cmd_picture.specs.Inner.{row_in, rows_in}
-
-either : (a : Bool) → (a || true) ≡ true
-either true = refl
-either false = refl
-
-module _ (lower upper bit place : ℕ) where
-  pub mark_lower : place ≡ lower → character bit ≡ mark lower upper bit place
-  mark_lower e = rw (mark, eq-eqb place lower e)
-
-  pub mark_upper : place ≡ upper → character bit ≡ mark lower upper bit place
-  mark_upper e = rw (mark, eq-eqb place upper e, either (eqb place lower))
-
-  module _ (n : place ≡ lower → ⊥) (m : place ≡ upper → ⊥) where
-    pub mark-before : place ≤ lower → 45 ≡ mark lower upper bit place
-    mark-before h = rw (mark, ne_eqb place lower n, ne_eqb place upper m, le-ltb lower place h)
-
-    pub mark-behind : lower < place → upper ≤ place → 45 ≡ mark lower upper bit place
-    mark-behind l h = rw (mark, ne_eqb place lower n, ne_eqb place upper m, lt-ltb lower place l, le-ltb place upper h)
-
-    pub mark_between : lower < place → place < upper → 124 ≡ mark lower upper bit place
-    mark_between l h = rw (mark, ne_eqb place lower n, ne_eqb place upper m, lt-ltb lower place l, lt-ltb place upper h)
 
 -- ---- rows
 

@@ -18,7 +18,7 @@ pub fn put_picture(out: &mut [u8], at: usize, n: usize, bits: &[u8]) -> usize
 {
     let mut blocks = [0u8; 16];
     let mut log = [0u16; entry_log::ENTRY_WORDS * 49];
-    apply::apply(n, 1, &mut blocks[..n], bits, &mut log);
+    let _ = apply::apply(n, 1, &mut blocks[..n], bits, &mut log);
     let a = put_heading(out, at, n, bits);
     put_rows(out, a, n, bits, &log)
 }
@@ -39,10 +39,8 @@ fn put_rows(out: &mut [u8], at: usize, n: usize, bits: &[u8], log: &[u16]) -> us
     ensures { Put out.old at (rows_in n log.now bits.now n) result out.new }
 {
     let mut end = at;
-    let mut place = 0;
-    while place < n {
+    for place in 0..n {
         end = put_row(out, end, n, place, bits, log);
-        place += 1;
     }
     end
 }
@@ -63,30 +61,22 @@ fn put_columns(out: &mut [u8], at: usize, place: usize, bits: &[u8], log: &[u16]
         × (at + length (columns_in log.now bits.now place) ≤ length out.old) }
     ensures { Put out.old at (columns_in log.now bits.now place) result out.new }
 {
-    let mut e = 0;
-    while e < bits.len() {
+    for (e, bit) in bits.iter().enumerate() {
         let lower = entry_log::first_of(log, e);
         let upper = entry_log::second_of(log, e);
-        out[at + e] = mark_at(lower, upper, bits[e], place);
-        e += 1;
+        out[at + e] = mark_at(lower, upper, *bit, place);
     }
-    at + e
+    at + bits.len()
 }
 
 fn mark_at(lower: usize, upper: usize, bit: u8, place: usize) -> u8
     ensures { result ≡ mark lower upper bit place }
 {
-    if place == lower {
-        return cmd_text::bit_character(bit);
+    if place == lower || place == upper {
+        cmd_text::bit_character(bit)
+    } else if lower < place && place < upper {
+        b'|'
+    } else {
+        b'-'
     }
-    if place == upper {
-        return cmd_text::bit_character(bit);
-    }
-    if place <= lower {
-        return b'-';
-    }
-    if upper <= place {
-        return b'-';
-    }
-    b'|'
 }

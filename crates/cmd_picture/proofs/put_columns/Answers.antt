@@ -47,4 +47,6 @@ pub shape_of-out : goal.shape_of-out
 shape_of-out c = c.loop-e.invariant.same
 
 pub returns : goal.returns
-returns c = lay_ends _ _ _ _ _ c.loop-e.invariant (omega (arith, c.loop-e-test.false, long c.args.log.now c.args.bits.now c.args.place))
+returns c =
+    let same = long c.args.log.now c.args.bits.now c.args.place in
+    lay_ends _ _ _ _ _ c.loop-e.invariant (omega (arith, c.loop-e-test.false, same)) (omega (arith, same))
