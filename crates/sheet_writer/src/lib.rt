@@ -2,36 +2,37 @@
 // numbers. In `write_sheet` nothing depends on the bits before question 7 is decided.
 #![tactic(auto)]
 
-ghost use Rattle.std.specs.Prelude.{◌≡◌, ◌≤◌, ◌+◌, ◌*◌, min, length, take, drop};
-ghost use Rattle.answers.specs.Buffers.{overlay, Put};
+ghost use Rattle.std.specs.Prelude.{◌≡◌, ◌≤◌, length, take};
+ghost use Rattle.answers.specs.Answers.{answer_from};
+ghost use Rattle.answers.specs.Buffers.{Put};
 ghost use Rattle.answers.specs.Outcomes.{outcome};
 ghost use Rattle.bits.specs.Bits.{Bits};
-ghost use Rattle.sheets.specs.Sheet.{bits_number, fourteens, sheet};
+ghost use Rattle.sheets.specs.Sheet.{bits_number, numbers_for, fourteens, sheet};
 ghost use Rattle.sheets.specs.Calls.{write_sheet};
 
-use answers::Answer;
+use answers::{Reason, Refusal};
 
-// 01: write sheet. The sheet is made aside, so that a refusal leaves the output alone.
-pub fn write_sheet(n: usize, bits: &[u8], out: &mut [u8]) -> Answer
-    ensures { outcome result out.new ≡ write_sheet n bits.now out.old }
+/// 01: write sheet. The sheet is made aside, so that a refusal leaves the output alone.
+pub fn write_sheet(n: usize, bits: &[u8], out: &mut [u8]) -> Result<usize, Refusal>
+    ensures { outcome (answer_from result) out.new ≡ write_sheet n bits.now out.old }
 {
     if counts::MOST_PLACES < n {
-        return answers::refuse(1, 0);
+        return Err(Refusal::of(Reason::Places));
     }
     if bits.len() != counts::switches(n) {
-        return answers::refuse(4, 0);
+        return Err(Refusal::of(Reason::BitCount));
     }
     let bad = bits::first_bad_bit(bits);
     if bad != bits.len() {
-        return answers::refuse(7, bad);
+        return Err(Refusal::at(Reason::BitByte, bad));
     }
     let mut made = [0u8; sheets::SHEET_ROOM];
     let end = make_sheet(n, bits, &mut made);
     if out.len() < end {
-        return answers::refuse(13, 0);
+        return Err(Refusal::of(Reason::OutputRoom));
     }
-    copy_front(&made, end, out);
-    answers::accept(end)
+    out[..end].copy_from_slice(&made[..end]);
+    Ok(end)
 }
 
 // The sheet, over the front of buf: 1,321 bytes are enough for each. The answer is its length.
@@ -40,60 +41,33 @@ fn make_sheet(n: usize, bits: &[u8], buf: &mut [u8]) -> usize
     ensures { Put buf.old 0 (sheet n bits.now) result buf.new }
 {
     let mut row = [0u16; sheets::MOST_FOURTEENS];
-    let k = (bits.len() + 13) / 14;
-    gather(bits, k, &mut row);
+    let k = bits.len().div_ceil(14);
+    gather(bits, &mut row[..k]);
     let a = numbers::put_number(buf, 0, 1);
     let b = numbers::put_number(buf, a, n);
     rows::put_row(&row[..k], buf, b)
 }
 
-// The numbers of k fourteens of bits, over the front of row.
-fn gather(bits: &[u8], k: usize, row: &mut [u16])
-    requires { (14 * k ≤ length bits.now + 13) × (k ≤ length row.old) × Bits bits.now }
-    ensures { row.new ≡ overlay row.old 0 (fourteens k bits.now) }
+// The numbers of the fourteens of bits.
+fn gather(bits: &[u8], row: &mut [u16])
+    requires { (length row.old ≡ numbers_for (length bits.now)) × Bits bits.now }
+    ensures { row.new ≡ fourteens (length row.old) bits.now }
 {
-    let mut j = 0;
-    while j < k {
-        row[j] = fourteen(bits, j * 14);
-        j += 1;
+    for (j, number) in row.iter_mut().enumerate() {
+        let from = j * 14;
+        let end = bits.len().min(from + 14);
+        *number = fourteen(&bits[from..end]);
     }
 }
 
-// The number of the fourteen bits from a place on, or of those that are left: the last, which is the highest, goes in first.
-fn fourteen(bits: &[u8], from: usize) -> u16
-    requires { (from ≤ length bits.now) × Bits bits.now }
-    ensures { result ≡ bits_number (take 14 (drop from bits.now)) }
+// The number of at most fourteen bits: the last, which is the highest, goes in first.
+fn fourteen(bits: &[u8]) -> u16
+    requires { (length bits.now ≤ 14) × Bits bits.now }
+    ensures { result ≡ bits_number bits.now }
 {
-    let size = at_most_fourteen(bits.len() - from);
-    let mut v = 0;
-    let mut j = 0;
-    while j < size {
-        j += 1;
-        v = v * 2 + wide(bits[from + size - j]);
+    let mut number = 0;
+    for bit in bits.iter().rev() {
+        number = number * 2 + u16::from(*bit);
     }
-    v
-}
-
-fn at_most_fourteen(left: usize) -> usize
-    ensures { result ≡ min 14 left }
-{
-    if left < 14 { left } else { 14 }
-}
-
-fn wide(x: u8) -> u16
-    ensures { result ≡ x }
-{
-    x as u16
-}
-
-// The first n bytes of made, over the front of out.
-fn copy_front(made: &[u8], n: usize, out: &mut [u8])
-    requires { (n ≤ length made.now) × (n ≤ length out.old) }
-    ensures { out.new ≡ overlay out.old 0 (take n made.now) }
-{
-    let mut i = 0;
-    while i < n {
-        out[i] = made[i];
-        i += 1;
-    }
+    number
 }

@@ -1,11 +1,9 @@
 -- `sheet_writer::fourteen` meets its contract.
 -- Assumes nothing.
-use Prim.Native.Nat.{◌-◌, ◌≤◌}
-use Rattle.sheet_writer.proofs.Writing.{Taking}
+use mathlib.Core.Path.{◌≡◌}
+use lib.ListN.{length}
+use Rattle.sheet_writer.proofs.Writing.{last_number}
 use Rattle.sheet_writer.proofs.fourteen.Given as goal
 
-abbrev pub invariant-loop-j : goal.invariant-loop-j
-invariant-loop-j l = (l.j ≤ l.size) × Taking l.bits l.from l.v (l.size - l.j)
-
-abbrev pub decreases-loop-j : goal.decreases-loop-j
-decreases-loop-j l = l.size - l.j
+abbrev pub invariant-loop-bit : goal.invariant-loop-bit
+invariant-loop-bit l = l.number ≡ last_number l.bits (length l.yielded)

@@ -1,29 +1,24 @@
 -- `sheet_writer::gather` meets its contract.
 -- Assumes nothing.
-use Prim.Native.Nat.{◌*◌}
 use native.Mathlib.Omega.{arith}
-use lib.ListN.{take, drop}
-use Rattle.answers.proofs.Putting.{over_starts, each_more, each-ends}
-use Rattle.sheets.specs.Sheet.{bits_number, fourteens}
-use Rattle.sheets.proofs.Unpacking.{fourteens-length}
-use Rattle.sheet_writer.proofs.Writing.{fourteens-at}
+use mathlib.Core.Path.{refl}
+use Prim.Native.Nat.{◌-◌, ◌*◌}
+use lib.ListN.{drop, length-take}
+use Rattle.sheets.specs.Sheet.{fourteens}
+use Rattle.sheets.proofs.Unpacking.{bits_take, bits_drop}
+use Rattle.sheet_writer.proofs.Writing.{gathered_more}
 use Rattle.sheet_writer.proofs.gather.Goals as goal
 
 pub loop-j-init : goal.loop-j-init
-loop-j-init c = over_starts _ _ _
+unfolding fourteens
+loop-j-init c = refl
 
 pub fourteen-requires : goal.fourteen-requires
-fourteen-requires c = (omega arith, c.requires.2)
+fourteen-requires c = let from = c.loop-j.j * 14 in
+    let bits = c.args.bits.now in
+    (omega (arith, length-take (c.min-end.result - from) (drop from bits), c.min-end.ensures), bits_take (c.min-end.result - from) (drop from bits) (bits_drop from bits c.requires.1))
 
 pub loop-j-preserved : goal.loop-j-preserved
-loop-j-preserved c = let bits = c.args.bits.now in
-    let k = c.args.k in
-    each_more (λ j. bits_number (take 14 (drop (j * 14) bits))) (fourteens k bits) k (fourteens-length k bits) (fourteens-at k bits) c.loop-j-test.true c.requires.1 c.fourteen.ensures c.loop-j.invariant
-
-pub shape_of-row : goal.shape_of-row
-shape_of-row c = c.loop-j.invariant.same
-
-pub returns : goal.returns
-returns c = let bits = c.args.bits.now in
-    let k = c.args.k in
-    each-ends (λ j. bits_number (take 14 (drop (j * 14) bits))) (fourteens k bits) k (fourteens-length k bits) (fourteens-at k bits) c.loop-j-test.false c.loop-j.invariant
+loop-j-preserved c =
+    gathered_more c.args.bits.now c.loop-j.row c.loop-j.j c.fourteen.result c.min-end.result (omega arith)
+    (omega (arith, c.requires.0)) (omega (arith, c.min-end.ensures)) c.fourteen.ensures c.loop-j.invariant
