@@ -1,12 +1,15 @@
 -- The numbers after the return: block i names the place to which the block at i goes.
 -- Assumes nothing.
-use mathlib.Core.Path.{◌≡◌, sym, ap, ◌∙◌}
+use mathlib.Core.Path.{◌≡◌, refl, sym, ap, ◌∙◌}
 use mathlib.Core.List.{List, [], ◌++◌}
 use Prim.Native.Nat.{ℕ, ◌+◌, ◌*◌, ◌/◌, ◌%◌, ◌≤◌, ◌<◌}
 use native.Mathlib.Omega.{arith}
 use lib.ListN.{length, get_or, take, drop, length-append, length-drop, get_or-append}
 use lib.Seq.{get_or-take, get_or-drop, length-take-le}
-use Rattle.answers.specs.declared.Answer.{Answer}
+use Rattle.std.specs.Prelude.{Result, Ok, Err, IsOk}
+use Rattle.answers.specs.declared.Refusal.{Refusal}
+use Rattle.answers.specs.Answers.{answer_from}
+use Rattle.answers.proofs.Results.{number_above}
 use Rattle.answers.specs.Outcomes.{Logged, logged}
 use Rattle.bits.specs.Bits.{Bits}
 use Rattle.counts.specs.Counts.{W}
@@ -86,14 +89,21 @@ module _ (t : Topology) (n : ℕ) (bits blocks : List ℕ) (long : length blocks
           omega (arith, low, high)
 
 -- no question of the return gets a no
-returned : (t : Topology) (n : ℕ) (bits blocks log : List ℕ) {a : Answer} {after log' : List ℕ} → n ≤ 1024 → W n ≤ 9217
-    → length bits ≡ W n → Bits bits
-    → length blocks ≡ n * 2 → length log ≡ entry_words * 9217 → logged a after log' ≡ inverse_call_in (wiring_of t) n 2 blocks bits log
-    → after ≡ moved_back (wiring_of t) n 2 bits blocks
-returned t n bits blocks log few small count are_bits long room e =
-    let f : Fits n 2 (length blocks) bits (length log) =
-    record { places = few; low = omega arith; high = omega arith; whole = long; count = count; words = omega arith; settings = are_bits } in
-    ap (λ (o : Logged). o.buffer) (e ∙ inverse_accepted (lawful t) n 2 blocks bits log f)
+module _ (t : Topology) (n : ℕ) (bits blocks log : List ℕ) (few : n ≤ 1024) (small : W n ≤ 9217) (count : length bits ≡ W n) (are_bits : Bits bits)
+    (long : length blocks ≡ n * 2) (room : length log ≡ entry_words * 9217) where
+  fits : Fits n 2 (length blocks) bits (length log)
+  fits = record { places = few; low = omega arith; high = omega arith; whole = long; count = count; words = omega arith; settings = are_bits }
+
+  module _ (r : Result ℕ Refusal) {after log' : List ℕ} (e : logged (answer_from r) after log' ≡ inverse_call_in (wiring_of t) n 2 blocks bits log) where
+    returned : after ≡ moved_back (wiring_of t) n 2 bits blocks
+    returned = ap (λ (o : Logged). o.buffer) (e ∙ inverse_accepted (lawful t) n 2 blocks bits log fits)
+
+    accepts : IsOk r
+    accepts = go r (ap (λ (o : Logged). o.answer.number) (e ∙ inverse_accepted (lawful t) n 2 blocks bits log fits))
+      where
+        go : (r : Result ℕ Refusal) → (answer_from r).number ≡ 0 → IsOk r
+        go (Ok x) z = refl
+        go (Err x) z = absurd (omega (arith, number_above x.reason, z))
 
 -- ---- the whole array, of which the blocks are the front
 
@@ -104,16 +114,14 @@ module _ (n : ℕ) (array : List ℕ) (few : n ≤ 1024) (room : length array �
   pub array_kept : (front : List ℕ) → length front ≡ length (take (n * 2) array) → length (front ++ drop (n * 2) array) ≡ 2048
   array_kept front e = rw (length-append, length-drop) (omega (arith, front_long))
 
-  pub carried_in :
-      (t : Topology) (bits log : List ℕ) {a : Answer} {front log' : List ℕ}
-      → W n ≤ 9217
-      → length bits ≡ W n
-      → Bits bits
-      → Numbered n array
-      → length log ≡ entry_words * 9217
-      → logged a front log' ≡ inverse_call_in (wiring_of t) n 2 (take (n * 2) array) bits log
-      → tabulate (number_in (front ++ drop (n * 2) array)) n ≡ order_of (wiring_of t) n bits
-  carried_in t bits log small count are_bits N words e =
-      let blocks = take (n * 2) array in
-      ap (λ x. tabulate (number_in (x ++ drop (n * 2) array)) n) (returned t n bits blocks log few small count are_bits front_long words e)
-      ∙ order_in_lem t n bits blocks front_long (first_numbered n array N) (drop (n * 2) array)
+  module _ (t : Topology) (bits log : List ℕ) (r : Result ℕ Refusal) {front log' : List ℕ} (small : W n ≤ 9217) (count : length bits ≡ W n)
+      (are_bits : Bits bits) (words : length log ≡ entry_words * 9217)
+      (e : logged (answer_from r) front log' ≡ inverse_call_in (wiring_of t) n 2 (take (n * 2) array) bits log) where
+    pub not_refused : IsOk r
+    not_refused = accepts t n bits (take (n * 2) array) log few small count are_bits front_long words r e
+
+    pub carried_in : Numbered n array → tabulate (number_in (front ++ drop (n * 2) array)) n ≡ order_of (wiring_of t) n bits
+    carried_in N =
+        let blocks = take (n * 2) array in
+        ap (λ x. tabulate (number_in (x ++ drop (n * 2) array)) n) (returned t n bits blocks log few small count are_bits front_long words r e)
+        ∙ order_in_lem t n bits blocks front_long (first_numbered n array N) (drop (n * 2) array)

@@ -7,7 +7,15 @@ use native.Mathlib.Omega.{arith}
 use native.Mathlib.Decide.{dec_lt}
 use lib.ListN.{length, get_or, set, length-set}
 use lib.Seq.{get_or-set_same, get_or-set_other}
+use Rattle.std.specs.Int.{w16, to_le_bytes}
 use Rattle.setting_order.specs.Inner.{Numbered}
+
+-- the two bytes of a place
+pub low_byte : (bytes : List ℕ) (i : ℕ) → bytes ≡ to_le_bytes w16 i → get_or bytes 0 0 ≡ i % 256
+low_byte bytes i e = rw e (omega arith)
+
+pub high_byte : (bytes : List ℕ) (i : ℕ) → i < 1024 → bytes ≡ to_le_bytes w16 i → get_or bytes 1 0 ≡ i / 256
+high_byte bytes i h e = rw e (omega arith)
 
 -- what the loop of `number` keeps
 pub record Numbering (n : ℕ) (before blocks : List ℕ) (i : ℕ) : Type 0 where

@@ -1,6 +1,5 @@
 -- `setting_order::gather` meets its contract.
 -- Assumes nothing.
-use Prim.Native.Nat.{◌-◌}
 use Rattle.permutation.specs.Permutations.{tabulate}
 use Rattle.answers.proofs.Putting.{Over}
 use Rattle.setting_order.specs.Inner.{number_in}
@@ -8,6 +7,3 @@ use Rattle.setting_order.proofs.gather.Given as goal
 
 abbrev pub invariant-loop-i : goal.invariant-loop-i
 invariant-loop-i l = Over (tabulate (number_in l.blocks) l.n) l.initial.order l.order l.n l.i
-
-abbrev pub decreases-loop-i : goal.decreases-loop-i
-decreases-loop-i l = l.n - l.i
