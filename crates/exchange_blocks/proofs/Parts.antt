@@ -4,7 +4,7 @@ use Rattle.std.proofs.Common.{◌≡◌, ℕ, zero, suc, ◌+◌, ◌*◌, ◌/�
 use native.Mathlib.Decide.{ℕ_discrete}
 use Rattle.network.specs.Move.{switch}
 use Rattle.exchange_words.specs.Bytes.{bytes_switched}
-use Rattle.exchange_words.specs.Words.{from, written, pick}
+use Rattle.exchange_words.specs.Words.{pick}
 use Rattle.exchange_words.proofs.Written.{Picked}
 
 -- m bytes, and n behind them
@@ -35,20 +35,6 @@ pub none : (a gap s : ℕ) (l : List ℕ) → l ≡ bytes_switched a gap s 0 l
 unfolding bytes_switched
 none a gap s l = refl
 
--- one byte more is written
-pub one_more : (j p : ℕ) (f : ℕ → ℕ) (l : List ℕ) → set (written j p f l) (p + j) (f j) ≡ written (j + 1) p f l
-unfolding written
-one_more j p f l = ap (λ n. written n p f l) (sym (add-one j))
-
--- one byte more is taken
-pub one_taken : (j p v : ℕ) (part l : List ℕ) → j < length part → v ≡ get_or l (p + j) 0
-    → ((i : ℕ) → i < j → get_or part i 0 ≡ from p l i) → (i : ℕ) → i < j + 1 → get_or (set part j v) i 0 ≡ from p l i
-one_taken j p v part l h e taken i m = go (ℕ_discrete i j)
-  where
-    go : Dec (i ≡ j) → get_or (set part j v) i 0 ≡ from p l i
-    go (yes same) = rw same (get_or-set_same part j v 0 h ∙ e)
-    go (no other) = get_or-set_other part j i v 0 other ∙ taken i (omega arith)
-
 -- ---- the digits of a number of bytes
 
 pub four_digit : (n : ℕ) → n ≡ 8 * (n / 8) + (4 * (n / 4 % 2) + n % 4)
@@ -62,9 +48,9 @@ two_digit n =
     let low : n % 4 ≡ 2 * (n / 2 % 2) + n % 2 = omega arith in
     sum (8 * (n / 8)) (4 * (n / 4 % 2)) (n % 4) n (2 * (n / 2 % 2) + n % 2) (four_digit n) low
 
-pub one-digit : (n : ℕ) → n ≡ 8 * (n / 8) + 4 * (n / 4 % 2) + 2 * (n / 2 % 2) + (n % 2 + 0)
-one-digit n = sum (8 * (n / 8) + 4 * (n / 4 % 2)) (2 * (n / 2 % 2)) (n % 2) n (n % 2 + 0) (two_digit n)
-    (let z : n % 2 ≡ n % 2 + 0 = omega arith in z)
+pub one-digit : (n : ℕ) → n ≡ 8 * (n / 8) + 4 * (n / 4 % 2) + 2 * (n / 2 % 2) + (1 * (n / 1 % 2) + 0)
+one-digit n = sum (8 * (n / 8) + 4 * (n / 4 % 2)) (2 * (n / 2 % 2)) (n % 2) n (1 * (n / 1 % 2) + 0) (two_digit n)
+    (let z : n % 2 ≡ 1 * (n / 1 % 2) + 0 = omega arith in z)
 
 -- `size` of n bytes lie inside, behind those before them
 pub behind : (before size after n gap a at long now : ℕ) → n ≡ before + (size + after) → n ≤ gap → a + gap + n ≤ long
@@ -109,8 +95,8 @@ half_more s j x₀ y₀ x y u v hx hy h p =
         record { lower = get_or-set_other x j i u 0 other ∙ q.lower; upper = get_or-set_other y j i v 0 other ∙ q.upper }
 
 -- what was taken of the blocks
-pub taken : (s : ℕ) {x y x₁ y₁ x' y' : ℕ} → x ≡ x₁ → y ≡ y₁ → Picked s x y x' y' → Picked s x₁ y₁ x' y'
-taken s {x} {y} {x₁} {y₁} {x'} {y'} ex ey p =
+pub taken-picked : (s : ℕ) {x y x₁ y₁ x' y' : ℕ} → x ≡ x₁ → y ≡ y₁ → Picked s x y x' y' → Picked s x₁ y₁ x' y'
+taken-picked s {x} {y} {x₁} {y₁} {x'} {y'} ex ey p =
     record {
       lower = p.lower ∙ ap (λ u. pick s u y) ex ∙ ap (pick s x₁) ey;
       upper = p.upper ∙ ap (λ u. pick s u x) ey ∙ ap (pick s y₁) ex;

@@ -3,56 +3,31 @@
 // crate `apply_layers` only, whose callers have asked their questions before: so an exchange `requires` what they have settled.
 #![tactic(auto)]
 
-ghost use Rattle.std.specs.Prelude.{◌≡◌, ℕ, ◌+◌, ◌*◌, ◌/◌, ◌%◌, ◌<◌, ◌≤◌, length, slice_index};
+ghost use Rattle.std.specs.Prelude.{◌≡◌, ◌+◌, ◌*◌, ◌/◌, ◌%◌, ◌<◌, ◌≤◌, length};
 ghost use Rattle.exchange_words.specs.Bytes.{bytes_switched};
-ghost use Rattle.exchange_words.specs.Words.{from, written};
-
-// ---- 32 bytes, through arrays of their own: so the compiler need not ask whether the two parts overlap, and takes 16 at a time
-
-fn take32(bytes: &[u8], at: usize) -> [u8; 32]
-    requires { at + 32 ≤ length bytes.now }
-    ensures { (length result ≡ 32) × ((j : ℕ) → j < 32 → slice_index result j ≡ from at bytes.now j) }
-{
-    let mut part = [0u8; 32];
-    let mut j = 0;
-    while j < 32 {
-        part[j] = bytes[at + j];
-        j += 1;
-    }
-    part
-}
-
-fn put32(bytes: &mut [u8], at: usize, part: [u8; 32])
-    requires { at + 32 ≤ length bytes.old }
-    ensures { bytes.new ≡ written 32 at (λ j. slice_index part j) bytes.old }
-{
-    let mut j = 0;
-    while j < 32 {
-        bytes[at + j] = part[j];
-        j += 1;
-    }
-}
 
 // Exchanges 32 bytes from a on with those that lie `gap` further on where the bit s is 1: each byte gains or loses the masked
-// difference of the two.
+// difference of the two. They go through arrays of their own: so the compiler need not ask whether the two parts overlap, and
+// takes 16 bytes at a time. (At 8 bytes and fewer it takes them one by one so, at four times the instructions: hence the numbers of
+// the crate `exchange_words`.)
 fn exchange32(blocks: &mut [u8], a: usize, gap: usize, s: u8)
     requires { (s < 2) × (32 ≤ gap) × (a + gap + 32 ≤ length blocks.old) }
     ensures { blocks.new ≡ bytes_switched a gap s 32 blocks.old }
 {
     let mask = s * 255;
-    let mut y = take32(blocks, a + gap);
-    let mut x = take32(blocks, a);
-    let mut j = 0;
-    while j < 32 {
+    let mut y = [0u8; 32];
+    let mut x = [0u8; 32];
+    y.copy_from_slice(&blocks[a + gap..a + gap + 32]);
+    x.copy_from_slice(&blocks[a..a + 32]);
+    for j in 0..32 { // by index: zipped, the two are a third more instructions
         let q = y[j];
         let p = x[j];
-        let d = std::num::wrapping_sub_u8(q, p) & mask;
-        y[j] = std::num::wrapping_sub_u8(q, d);
-        x[j] = std::num::wrapping_add_u8(p, d);
-        j += 1;
+        let d = q.wrapping_sub(p) & mask;
+        y[j] = q.wrapping_sub(d);
+        x[j] = p.wrapping_add(d);
     }
-    put32(blocks, a + gap, y);
-    put32(blocks, a, x);
+    blocks[a + gap..a + gap + 32].copy_from_slice(&y);
+    blocks[a..a + 32].copy_from_slice(&x);
 }
 
 // The same of `whole` bytes, a number that 32 divides.
@@ -61,10 +36,8 @@ pub fn exchange_whole(blocks: &mut [u8], whole: usize, a: usize, gap: usize, s: 
     ensures { blocks.new ≡ bytes_switched a gap s whole blocks.old }
 {
     let n = whole / 32;
-    let mut j = 0;
-    while j < n {
+    for j in 0..n {
         exchange32(blocks, a + 32 * j, gap, s);
-        j += 1;
     }
 }
 
@@ -75,45 +48,23 @@ fn eights(blocks: &mut [u8], rest: usize, a: usize, gap: usize, s: u8) -> usize
     ensures { (result ≡ a + 8 * (rest / 8)) × (blocks.new ≡ bytes_switched a gap s (8 * (rest / 8)) blocks.old) }
 {
     let n = rest / 8;
-    let mut j = 0;
-    while j < n {
-        exchange_words::exchange8(blocks, a + 8 * j, gap, s);
-        j += 1;
+    for j in 0..n {
+        exchange_words::exchange::<8>(blocks, a + 8 * j, gap, s);
     }
     a + 8 * n
 }
 
-fn four(blocks: &mut [u8], rest: usize, a: usize, gap: usize, s: u8) -> usize
-    requires { (s < 2) × (4 * (rest / 4 % 2) ≤ gap) × (a + gap + 4 * (rest / 4 % 2) ≤ length blocks.old) }
-    ensures { (result ≡ a + 4 * (rest / 4 % 2))
-        × (blocks.new ≡ bytes_switched a gap s (4 * (rest / 4 % 2)) blocks.old) }
+// N bytes, where that digit is 1.
+fn digit<const N: usize>(blocks: &mut [u8], rest: usize, a: usize, gap: usize, s: u8) -> usize
+    requires { (s < 2) × (N * (rest / N % 2) ≤ gap) × (a + gap + N * (rest / N % 2) ≤ length blocks.old) × (1 ≤ N) × (N ≤ 8) }
+    ensures { (result ≡ a + N * (rest / N % 2))
+        × (blocks.new ≡ bytes_switched a gap s (N * (rest / N % 2)) blocks.old) }
 {
-    if rest / 4 % 2 == 1 {
-        exchange_words::exchange4(blocks, a, gap, s);
-        return a + 4;
+    if rest / N % 2 == 1 {
+        exchange_words::exchange::<N>(blocks, a, gap, s);
+        return a + N;
     }
     a
-}
-
-fn two(blocks: &mut [u8], rest: usize, a: usize, gap: usize, s: u8) -> usize
-    requires { (s < 2) × (2 * (rest / 2 % 2) ≤ gap) × (a + gap + 2 * (rest / 2 % 2) ≤ length blocks.old) }
-    ensures { (result ≡ a + 2 * (rest / 2 % 2))
-        × (blocks.new ≡ bytes_switched a gap s (2 * (rest / 2 % 2)) blocks.old) }
-{
-    if rest / 2 % 2 == 1 {
-        exchange_words::exchange2(blocks, a, gap, s);
-        return a + 2;
-    }
-    a
-}
-
-fn one(blocks: &mut [u8], rest: usize, a: usize, gap: usize, s: u8)
-    requires { (s < 2) × (rest % 2 ≤ gap) × (a + gap + rest % 2 ≤ length blocks.old) }
-    ensures { blocks.new ≡ bytes_switched a gap s (rest % 2) blocks.old }
-{
-    if rest % 2 == 1 {
-        exchange_words::exchange1(blocks, a, gap, s);
-    }
 }
 
 // Exchanges `rest` bytes.
@@ -122,7 +73,7 @@ pub fn exchange_rest(blocks: &mut [u8], rest: usize, a: usize, gap: usize, s: u8
     ensures { blocks.new ≡ bytes_switched a gap s rest blocks.old }
 {
     let b = eights(blocks, rest, a, gap, s);
-    let c = four(blocks, rest, b, gap, s);
-    let d = two(blocks, rest, c, gap, s);
-    one(blocks, rest, d, gap, s);
+    let c = digit::<4>(blocks, rest, b, gap, s);
+    let d = digit::<2>(blocks, rest, c, gap, s);
+    let _ = digit::<1>(blocks, rest, d, gap, s);
 }

@@ -1,17 +1,11 @@
 -- The bytes of a number of bytes, and two parts of bytes switched as numbers.
 -- Assumes nothing.
-use Rattle.std.proofs.Common.{◌≡◌, ℕ, zero, suc, ◌+◌, ◌*◌, ◌/◌, ◌%◌, ◌<◌, ◌≤◌, List, get_or, set, refl, ap, ◌∙◌, arith}
+use Rattle.std.proofs.Common.{◌≡◌, ℕ, zero, suc, ◌+◌, ◌*◌, ◌/◌, ◌<◌, ◌≤◌, ◌-◌, w64, List, [], ◌∷◌, ◌++◌, length, take, drop, get_or, refl, ap, ◌∙◌, arith, get_or-drop}
+use Rattle.std.specs.Int.{from_le_bytes, to_le_bytes}
 use Rattle.exchange_words.specs.Bytes.{bytes_switched}
 use Rattle.exchange_words.specs.Words.{number, byte_of, from, written, pick}
-use borrow.Rule.Slice.PartMut.{mid_of}
-use Rattle.exchange_words.proofs.Written.{part_at, Picked, parts_switched}
-
-pub number_alike : (n : ℕ) (f g : ℕ → ℕ) → ((j : ℕ) → j < n → f j ≡ g j) → number n f ≡ number n g
-unfolding number
-number_alike zero f g same = refl
-number_alike (suc n) f g same =
-    ap (λ x. x + 256 * number n (λ j. f (suc j))) (same 0 (omega arith))
-    ∙ ap (λ x. g 0 + 256 * x) (number_alike n (λ j. f (suc j)) (λ j. g (suc j)) (λ j h. same (suc j) (omega arith)))
+use Rattle.std.proofs.lemmas.List.{get_or-append-add, get_or_append_left}
+use Rattle.exchange_words.proofs.Written.{taken, Picked, parts_switched}
 
 pub number_byte : (n j : ℕ) (f : ℕ → ℕ) → j < n → ((i : ℕ) → f i < 256) → byte_of j (number n f) ≡ f j
 unfolding number byte_of
@@ -21,37 +15,62 @@ number_byte (suc n) (suc j) f h b =
     let rest : (f 0 + 256 * number n (λ i. f (suc i))) / 256 ≡ number n (λ i. f (suc i)) = omega (arith, b 0) in
     ap (byte_of j) rest ∙ number_byte n j (λ i. f (suc i)) (omega arith) (λ i. b (suc i))
 
--- the number of n bytes of a part of a list
-pub number-part : (n i a k : ℕ) (xs : List ℕ) → i + n ≤ k → number n (from i (mid_of a k xs)) ≡ number n (λ j. from a xs (i + j))
-number-part n i a k xs h = number_alike n (from i (mid_of a k xs)) (λ j. from a xs (i + j)) (λ j l. part_at a k (i + j) xs (omega arith))
+-- ---- eight bytes
 
-pub number-front : (n a k : ℕ) (xs : List ℕ) → n ≤ k → number n (from 0 (mid_of a k xs)) ≡ number n (from a xs)
-number-front n a k xs h =
-    number-part n 0 a k xs (omega arith)
-    ∙ number_alike n (λ j. from a xs (0 + j)) (from a xs) (λ j l. ap (from a xs) (let e : 0 + j ≡ j = omega arith in e))
+-- bytes and zeros behind them
+pub number_padded : (n m : ℕ) (f g : ℕ → ℕ) → n ≤ m → ((j : ℕ) → j < n → g j ≡ f j) → ((j : ℕ) → n ≤ j → g j ≡ 0) → number m g ≡ number n f
+unfolding number
+number_padded zero zero f g h same none = refl
+number_padded zero (suc m) f g h same none =
+    omega (arith, none 0 (omega arith), number_padded 0 m f (λ j. g (suc j)) (omega arith) (λ j l. absurd (omega arith)) (λ j l. none (suc j) (omega arith)))
+number_padded (suc n) zero f g h same none = absurd (omega arith)
+number_padded (suc n) (suc m) f g h same none =
+    omega (
+      arith,
+      same 0 (omega arith),
+      number_padded n m (λ j. f (suc j)) (λ j. g (suc j)) (omega arith) (λ j l. same (suc j) (omega arith)) (λ j l. none (suc j) (omega arith)),
+    )
 
--- the bytes from 2 and from 4 on
-pub byte_two : (j v : ℕ) → byte_of j (v / 65536) ≡ byte_of (2 + j) v
+pub number-le : (bytes : List ℕ) → from_le_bytes w64 bytes ≡ number 8 (λ j. get_or bytes j 0)
+unfolding number
+number-le bytes = omega arith
+
+pub byte-le : (v j : ℕ) → j < 8 → get_or (to_le_bytes w64 v) j 0 ≡ byte_of j v
 unfolding byte_of
-byte_two j v =
-    ap (byte_of j) (let e : v / 65536 ≡ v / 256 / 256 = omega arith in e)
-    ∙ ap (λ i. byte_of i v) (let e : suc (suc j) ≡ 2 + j = omega arith in e)
+byte-le v zero h = omega arith
+byte-le v (suc zero) h = omega arith
+byte-le v (suc (suc zero)) h = omega arith
+byte-le v (suc (suc (suc zero))) h = omega arith
+byte-le v (suc (suc (suc (suc zero)))) h = omega arith
+byte-le v (suc (suc (suc (suc (suc zero))))) h = omega arith
+byte-le v (suc (suc (suc (suc (suc (suc zero)))))) h = omega arith
+byte-le v (suc (suc (suc (suc (suc (suc (suc zero))))))) h = omega arith
+byte-le v (suc (suc (suc (suc (suc (suc (suc (suc j)))))))) h = absurd (omega arith)
 
-pub byte_four : (j v : ℕ) → byte_of j (v / 4294967296) ≡ byte_of (4 + j) v
-byte_four j v =
-    ap (byte_of j) (let e : v / 4294967296 ≡ v / 65536 / 65536 = omega arith in e)
-    ∙ byte_two j (v / 65536)
-    ∙ byte_two (2 + j) v
-    ∙ ap (λ i. byte_of i v) (let e : 2 + (2 + j) ≡ 4 + j = omega arith in e)
+abbrev eight : List ℕ
+eight = 0 ∷ 0 ∷ 0 ∷ 0 ∷ 0 ∷ 0 ∷ 0 ∷ 0 ∷ []
 
--- twice two bytes, and twice four
-pub number_four : (f : ℕ → ℕ) → number 2 f + 65536 * number 2 (λ j. f (2 + j)) ≡ number 4 f
-unfolding number
-number_four f = omega arith
+zeros : (j : ℕ) → get_or eight j 0 ≡ 0
+zeros zero = refl
+zeros (suc zero) = refl
+zeros (suc (suc zero)) = refl
+zeros (suc (suc (suc zero))) = refl
+zeros (suc (suc (suc (suc zero)))) = refl
+zeros (suc (suc (suc (suc (suc zero))))) = refl
+zeros (suc (suc (suc (suc (suc (suc zero)))))) = refl
+zeros (suc (suc (suc (suc (suc (suc (suc zero))))))) = refl
+zeros (suc (suc (suc (suc (suc (suc (suc (suc j)))))))) = refl
 
-pub number_eight : (f : ℕ → ℕ) → number 4 f + 4294967296 * number 4 (λ j. f (4 + j)) ≡ number 8 f
-unfolding number
-number_eight f = omega arith
+-- n bytes in front of zeros
+pub number_behind : (n k at : ℕ) (bytes part : List ℕ) → k ≡ n → n ≤ 8 → at + n ≤ length bytes → part ≡ take k (drop at bytes)
+    → from_le_bytes w64 (part ++ drop n eight) ≡ number n (from at bytes)
+number_behind n k at bytes part size h fits is =
+    let t = taken n k at bytes part size fits is in
+    number-le _
+    ∙ number_padded n 8 (from at bytes) _ h
+    (λ j l. get_or_append_left part _ 0 j (omega (arith, t.long)) ∙ t.here j l)
+    (λ j l. ap (λ i. get_or (part ++ drop n eight) i 0) (let e : j ≡ length part + (j - n) = omega (arith, t.long) in e)
+    ∙ get_or-append-add part _ (j - n) 0 ∙ get_or-drop n _ (j - n) 0 ∙ zeros (n + (j - n)))
 
 -- ---- two parts as numbers
 
@@ -72,15 +91,3 @@ numbers_switched n a gap s l x y x' y' hs h bytes ex ey p =
     go (suc zero) k q j m =
         record { lower = ap (byte_of j) (q.0 ∙ ey) ∙ byte (a + gap) j m; upper = ap (byte_of j) (q.1 ∙ ex) ∙ byte a j m }
     go (suc (suc s)) k q j m = absurd (omega arith)
-
--- the same of one byte each
-pub byte_switched : (a gap s : ℕ) (l : List ℕ) (x y x' y' : ℕ) → s < 2 → 1 ≤ gap → ((i : ℕ) → get_or l i 0 < 256)
-    → x ≡ get_or l a 0 → y ≡ get_or l (a + gap) 0 → (x' ≡ pick s x y) × (y' ≡ pick s y x)
-    → set (set l (a + gap) (y' % 256)) a (x' % 256) ≡ bytes_switched a gap s 1 l
-unfolding byte_of number written
-byte_switched a gap s l x y x' y' hs h bytes ex ey p =
-    let at : (q : ℕ) → q ≡ q + 0 = λ q. omega arith in
-    let one : (q : ℕ) → get_or l q 0 ≡ get_or l (q + 0) 0 + 256 * 0 = λ q. omega (arith, ap (λ i. get_or l i 0) (at q)) in
-    ap (λ i. set (set l i (y' % 256)) a (x' % 256)) (at (a + gap))
-    ∙ ap (λ i. set (set l (a + gap + 0) (y' % 256)) i (x' % 256)) (at a)
-    ∙ numbers_switched 1 a gap s l x y x' y' hs h bytes (ex ∙ one a) (ey ∙ one (a + gap)) p

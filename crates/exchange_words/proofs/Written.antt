@@ -1,6 +1,8 @@
 -- Bytes written one after the other, and two parts of bytes that are exchanged so.
 -- Assumes nothing.
-use Rattle.std.proofs.Common.{◌≡◌, ℕ, zero, suc, ◌+◌, ◌<◌, ◌≤◌, List, [], ◌∷◌, ◌++◌, length, get_or, take, drop, set, sym, refl, ap, ◌∙◌, arith, length-set, length-take-le, get_or-drop, get_or-set_other, get_or-take}
+use Rattle.std.proofs.Common.{◌≡◌, ℕ, zero, suc, ◌+◌, ◌<◌, ◌≤◌, List, [], ◌∷◌, ◌++◌, length, get_or, take, drop, set, sym, refl, ap, ◌∙◌, arith, length-set, length-take-le, get_or-take, get_or-drop, get_or-set_other, get_or-set_same, length-drop}
+use native.Mathlib.Decide.{ℕ_discrete}
+use Rattle.std.proofs.lemmas.List.{ext_get_or}
 use lib.Seq.{set-append_left, set-get_or, set_comm}
 use borrow.Rule.Slice.PartMut.{put_mid, mid_of, post_of, put_same}
 use Rattle.network.specs.Move.{switch}
@@ -67,31 +69,48 @@ part-written (suc n) i a k f xs ys h l =
     ∙ ap (λ u. set u (a + (i + n)) (f n)) (part-written n i a k f xs ys h (omega arith))
     ∙ ap (λ q. set (written n (a + i) f (put_mid a k xs ys)) q (f n)) (let e : a + (i + n) ≡ a + i + n = omega arith in e)
 
-pub part_at : (a k j : ℕ) (xs : List ℕ) → j < k → get_or (mid_of a k xs) j 0 ≡ get_or xs (a + j) 0
-part_at a k j xs h = get_or-take k (drop a xs) j 0 h ∙ get_or-drop a xs j 0
+-- ---- n bytes taken from place p on
 
--- m bytes written, and n behind them
-pub written_more : (m n p : ℕ) (f : ℕ → ℕ) (l : List ℕ) → written n (p + m) (λ j. f (m + j)) (written m p f l) ≡ written (m + n) p f l
+pub record Taken (n p : ℕ) (l part : List ℕ) : Type 0 where
+  pub long : length part ≡ n
+  pub here : (j : ℕ) → j < n → get_or part j 0 ≡ from p l j
+
+pub taken : (n k p : ℕ) (l part : List ℕ) → k ≡ n → p + n ≤ length l → part ≡ take k (drop p l) → Taken n p l part
+taken n k p l part size fits is =
+    record {
+      long = ap length is ∙ length-take-le k (drop p l) (omega (arith, length-drop p l)) ∙ size;
+      here = λ j h. ap (λ (u : List ℕ). get_or u j 0) is ∙ get_or-take k (drop p l) j 0 (omega arith) ∙ get_or-drop p l j 0;
+    }
+
+-- ---- bytes written over a whole part
+
+get_or-written : (n p j : ℕ) (f : ℕ → ℕ) (l : List ℕ) → j < n → p + n ≤ length l → get_or (written n p f l) (p + j) 0 ≡ f j
 unfolding written
-written_more m zero p f l = ap (λ q. written q p f l) (let e : m ≡ m + 0 = omega arith in e)
-written_more m (suc n) p f l =
-    ap (λ u. set u (p + m + n) (f (m + n))) (written_more m n p f l)
-    ∙ ap (λ q. set (written (m + n) p f l) q (f (m + n))) (let e : p + m + n ≡ p + (m + n) = omega arith in e)
-    ∙ ap (λ q. written q p f l) (let e : suc (m + n) ≡ m + suc n = omega arith in e)
+get_or-written zero p j f l h fits = absurd (omega arith)
+get_or-written (suc n) p j f l h fits = go (λ m. get_or-written n p j f l m (omega arith)) (ℕ_discrete j n)
+  where
+    go : (j < n → get_or (written n p f l) (p + j) 0 ≡ f j) → Dec (j ≡ n) → get_or (set (written n p f l) (p + n) (f n)) (p + j) 0 ≡ f j
+    go rest (yes same) = rw same (get_or-set_same (written n p f l) (p + n) (f n) 0 (rw (length-written n p f l) (omega arith)))
+    go rest (no other) =
+        get_or-set_other (written n p f l) (p + n) (p + j) (f n) 0 (λ e. other (omega arith))
+        ∙ rest (omega (arith, other))
 
--- the same in a part of a list
-pub part_more : (m n a k : ℕ) (f g h : ℕ → ℕ) (xs : List ℕ) → a ≤ length xs → m + n ≤ length (mid_of a k xs)
-    → ((j : ℕ) → f j ≡ h j) → ((j : ℕ) → g j ≡ h (m + j))
-    → put_mid a k xs (written n m g (written m 0 f (mid_of a k xs))) ≡ written (m + n) a h xs
-part_more m n a k f g h xs l w ef eg =
+whole-written : (n : ℕ) (f : ℕ → ℕ) (xs ys : List ℕ) → length xs ≡ n → length ys ≡ n → ((j : ℕ) → j < n → get_or ys j 0 ≡ f j)
+    → ys ≡ written n 0 f xs
+whole-written n f xs ys hx hy same =
+    ext_get_or 0 ys (written n 0 f xs) (hy ∙ sym hx ∙ sym (length-written n 0 f xs))
+    (λ j h. same j (omega arith) ∙ sym (get_or-written n 0 j f xs (omega arith) (omega arith))
+    ∙ ap (λ i. get_or (written n 0 f xs) i 0) (let e : 0 + j ≡ j = omega arith in e))
+
+pub part-filled : (n a k : ℕ) (f : ℕ → ℕ) (xs ys : List ℕ) → a + n ≤ length xs → k ≡ n → length ys ≡ n → ((j : ℕ) → j < n → get_or ys j 0 ≡ f j)
+    → put_mid a k xs ys ≡ written n a f xs
+part-filled n a k f xs ys h size long same =
     let mid : List ℕ = mid_of a k xs in
-    part-written n m a k g xs (written m 0 f mid) l (rw (length-written m 0 f mid) w)
-    ∙ ap (written n (a + m) g) (part-written m 0 a k f xs mid l (omega arith))
-    ∙ ap (λ q. written n (a + m) g (written m q f (put_mid a k xs mid))) (let e : a + 0 ≡ a = omega arith in e)
-    ∙ ap (λ u. written n (a + m) g (written m a f u)) (put_same a k xs)
-    ∙ ap (written n (a + m) g) (written_alike m a f h xs (λ j _. ef j))
-    ∙ written_alike n (a + m) g (λ j. h (m + j)) (written m a h xs) (λ j _. eg j)
-    ∙ written_more m n a h xs
+    let whole : length mid ≡ n = length-take-le k (drop a xs) (omega (arith, length-drop a xs)) ∙ size in
+    ap (put_mid a k xs) (whole-written n f mid ys whole long same)
+    ∙ part-written n 0 a k f xs mid (omega arith) (omega arith)
+    ∙ ap (λ q. written n q f (put_mid a k xs mid)) (let e : a + 0 ≡ a = omega arith in e)
+    ∙ ap (written n a f) (put_same a k xs)
 
 -- ---- two parts exchanged
 

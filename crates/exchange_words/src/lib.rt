@@ -7,67 +7,24 @@ ghost use Rattle.std.specs.Prelude.{◌≡◌, ◌+◌, ◌<◌, ◌≤◌, leng
 ghost use Rattle.exchange_words.specs.Bytes.{bytes_switched};
 ghost use Rattle.exchange_words.specs.Words.{number, byte_of, from, written, pick};
 
-fn wide(x: u8) -> u64
-    ensures { (result ≡ x) × (result < 256) }
+// The number of the N bytes from `at` on, low byte first. So the compiler sees one load, and in `put` one store.
+fn number<const N: usize>(bytes: &[u8], at: usize) -> u64
+    requires { (N ≤ 8) × (at + N ≤ length bytes.now) }
+    ensures { result ≡ number N (from at bytes.now) }
 {
-    x as u64
+    let mut part = [0u8; 8];
+    part[..N].copy_from_slice(&bytes[at..at + N]);
+    u64::from_le_bytes(part)
 }
 
-// ---- numbers of 2, 4 and 8 bytes, low byte first. The part that begins at the first byte is named, and 8 are twice 4: so the
-// compiler sees one load, and one store.
-
-fn get2(bytes: &[u8], at: usize) -> u64
-    requires { at + 2 ≤ length bytes.now }
-    ensures { (result ≡ number 2 (from at bytes.now)) × (result < 65536) }
+// The N bytes from `at` on become the lowest of v's.
+fn put<const N: usize>(bytes: &mut [u8], at: usize, v: u64)
+    requires { (N ≤ 8) × (at + N ≤ length bytes.old) }
+    ensures { bytes.new ≡ written N at (λ j. byte_of j v) bytes.old }
 {
-    let part = &bytes[at..];
-    wide(part[0]) + 256 * wide(part[1])
+    let part = v.to_le_bytes();
+    bytes[at..at + N].copy_from_slice(&part[..N]);
 }
-
-fn get4(bytes: &[u8], at: usize) -> u64
-    requires { at + 4 ≤ length bytes.now }
-    ensures { (result ≡ number 4 (from at bytes.now)) × (result < 4294967296) }
-{
-    let part = &bytes[at..];
-    get2(part, 0) + 65536 * get2(part, 2)
-}
-
-fn get8(bytes: &[u8], at: usize) -> u64
-    requires { at + 8 ≤ length bytes.now }
-    ensures { result ≡ number 8 (from at bytes.now) }
-{
-    let part = &bytes[at..];
-    get4(part, 0) + 4294967296 * get4(part, 4)
-}
-
-fn put2(bytes: &mut [u8], at: usize, v: u64)
-    requires { at + 2 ≤ length bytes.old }
-    ensures { bytes.new ≡ written 2 at (λ j. byte_of j v) bytes.old }
-{
-    let part = &mut bytes[at..];
-    part[0] = (v % 256) as u8;
-    part[1] = (v / 256 % 256) as u8;
-}
-
-fn put4(bytes: &mut [u8], at: usize, v: u64)
-    requires { at + 4 ≤ length bytes.old }
-    ensures { bytes.new ≡ written 4 at (λ j. byte_of j v) bytes.old }
-{
-    let part = &mut bytes[at..];
-    put2(part, 0, v);
-    put2(part, 2, v / 65536);
-}
-
-fn put8(bytes: &mut [u8], at: usize, v: u64)
-    requires { at + 8 ≤ length bytes.old }
-    ensures { bytes.new ≡ written 8 at (λ j. byte_of j v) bytes.old }
-{
-    let part = &mut bytes[at..];
-    put4(part, 0, v);
-    put4(part, 4, v / 4294967296);
-}
-
-// ---- exchanges
 
 #[derive(Clone, Copy)]
 struct Two {
@@ -80,58 +37,22 @@ fn switched(x: u64, y: u64, s: u8) -> Two
     requires { s < 2 }
     ensures { (result.lower ≡ pick s x y) × (result.upper ≡ pick s y x) }
 {
-    let mask = wide(s) * 18446744073709551615;
-    let d = std::num::wrapping_sub_u64(y, x) & mask;
+    let mask = u64::from(s) * 18446744073709551615;
+    let d = y.wrapping_sub(x) & mask;
     Two {
-        lower: std::num::wrapping_add_u64(x, d),
-        upper: std::num::wrapping_sub_u64(y, d),
+        lower: x.wrapping_add(d),
+        upper: y.wrapping_sub(d),
     }
 }
 
-// Exchanges the byte at a with that which lies `gap` further on where the bit s is 1.
-pub fn exchange1(blocks: &mut [u8], a: usize, gap: usize, s: u8)
-    requires { (s < 2) × (1 ≤ gap) × (a + gap + 1 ≤ length blocks.old) }
-    ensures { blocks.new ≡ bytes_switched a gap s 1 blocks.old }
+// Exchanges the N bytes from a on with those that lie `gap` further on where the bit s is 1.
+pub fn exchange<const N: usize>(blocks: &mut [u8], a: usize, gap: usize, s: u8)
+    requires { (N ≤ 8) × (s < 2) × (N ≤ gap) × (a + gap + N ≤ length blocks.old) }
+    ensures { blocks.new ≡ bytes_switched a gap s N blocks.old }
 {
-    let y = wide(blocks[a + gap]);
-    let x = wide(blocks[a]);
+    let y = number::<N>(blocks, a + gap);
+    let x = number::<N>(blocks, a);
     let w = switched(x, y, s);
-    let upper = w.upper;
-    let lower = w.lower;
-    blocks[a + gap] = (upper % 256) as u8;
-    blocks[a] = (lower % 256) as u8;
-}
-
-// The same of 2, of 4 and of 8 bytes from a on.
-pub fn exchange2(blocks: &mut [u8], a: usize, gap: usize, s: u8)
-    requires { (s < 2) × (2 ≤ gap) × (a + gap + 2 ≤ length blocks.old) }
-    ensures { blocks.new ≡ bytes_switched a gap s 2 blocks.old }
-{
-    let y = get2(blocks, a + gap);
-    let x = get2(blocks, a);
-    let w = switched(x, y, s);
-    put2(blocks, a + gap, w.upper);
-    put2(blocks, a, w.lower);
-}
-
-pub fn exchange4(blocks: &mut [u8], a: usize, gap: usize, s: u8)
-    requires { (s < 2) × (4 ≤ gap) × (a + gap + 4 ≤ length blocks.old) }
-    ensures { blocks.new ≡ bytes_switched a gap s 4 blocks.old }
-{
-    let y = get4(blocks, a + gap);
-    let x = get4(blocks, a);
-    let w = switched(x, y, s);
-    put4(blocks, a + gap, w.upper);
-    put4(blocks, a, w.lower);
-}
-
-pub fn exchange8(blocks: &mut [u8], a: usize, gap: usize, s: u8)
-    requires { (s < 2) × (8 ≤ gap) × (a + gap + 8 ≤ length blocks.old) }
-    ensures { blocks.new ≡ bytes_switched a gap s 8 blocks.old }
-{
-    let y = get8(blocks, a + gap);
-    let x = get8(blocks, a);
-    let w = switched(x, y, s);
-    put8(blocks, a + gap, w.upper);
-    put8(blocks, a, w.lower);
+    put::<N>(blocks, a + gap, w.upper);
+    put::<N>(blocks, a, w.lower);
 }

@@ -7,22 +7,19 @@ use Rattle.exchange_blocks.proofs.eights.Goals as goal
 
 pub loop-j-init : goal.loop-j-init
 loop-j-init c = let a = c.args in
-    (omega arith, (refl, none a.a a.gap a.s a.blocks.now))
+    (refl, none a.a a.gap a.s a.blocks.now)
 
 pub loop-j-preserved : goal.loop-j-preserved
 loop-j-preserved c = let a = c.args in (
-  omega arith,
-  (
-    c.exchange8.auto.blocks ∙ c.loop-j.invariant.1.0,
-    part_more 8 a.a a.gap a.s c.loop-j.j a.blocks.now
-        c.loop-j.blocks c.exchange8.new.blocks c.loop-j.invariant.1.1 c.exchange8.ensures,
-  ),
+  c.exchange.auto.blocks ∙ c.loop-j.invariant.0,
+  part_more 8 a.a a.gap a.s c.loop-j.j a.blocks.now
+      c.loop-j.blocks c.exchange.new.blocks c.loop-j.invariant.1 c.exchange.ensures,
 )
 
 pub shape_of-blocks : goal.shape_of-blocks
-shape_of-blocks c = c.loop-j.invariant.1.0
+shape_of-blocks c = c.loop-j.invariant.0
 
 pub returns : goal.returns
 returns c = let a = c.args in
     let e : c.loop-j.j ≡ a.rest / 8 = omega arith in
-    (refl, c.loop-j.invariant.1.1 ∙ ap (λ j. bytes_switched a.a a.gap a.s (8 * j) a.blocks.now) e)
+    (refl, c.loop-j.invariant.1 ∙ ap (λ j. bytes_switched a.a a.gap a.s (8 * j) a.blocks.now) e)

@@ -1,47 +1,48 @@
 -- The loop over the bytes of two parts. Its invariant: the first j of both arrays are switched.
 -- Assumes nothing.
-use Rattle.std.proofs.Common.{◌≡◌, ◌+◌, ◌<◌, get_or, ap, ◌∙◌, arith}
+use Rattle.std.proofs.Common.{ℕ, ◌+◌, ◌-◌, ◌*◌, ◌%◌, ◌<◌, ◌≤◌, List, get_or, length, refl, ap, ◌∙◌, arith}
+use lib.Bits.{bit_and}
+use Rattle.std.proofs.lemmas.Nat.{and_le_l}
 use Rattle.exchange_words.specs.Words.{written}
 use Rattle.exchange_words.proofs.Masked.{masked_byte}
-use Rattle.exchange_words.proofs.Written.{Picked, parts_switched}
-use Rattle.exchange_blocks.proofs.Parts.{half_none, half_more, taken}
+use Rattle.exchange_words.proofs.Written.{Picked, parts_switched, length-written, part-filled, taken}
+use Rattle.exchange_blocks.proofs.Parts.{half_none, half_more, taken-picked}
 use Rattle.exchange_blocks.proofs.exchange32.Goals as goal
 
 pub loop-j-init : goal.loop-j-init
-loop-j-init c = (
-  omega arith,
-  half_none c.args.s c.take32-x.result
-      c.take32-y.result,
-)
-
-pub bounds-y-j-in-loop-j : goal.bounds-y-j-in-loop-j
-bounds-y-j-in-loop-j c = omega (arith, c.loop-j.invariant.1.long_y)
+loop-j-init c = half_none c.args.s c.copy_from_slice-2.new.self c.copy_from_slice.new.self
 
 pub loop-j-preserved : goal.loop-j-preserved
-loop-j-preserved c = let a = c.args in
+loop-j-preserved c = let s = c.args.s in
+    let h = c.loop-j.invariant in
     let j = c.loop-j.j in
-    let h = c.loop-j.invariant.1 in
     let x = get_or c.loop-j.x j 0 in
     let y = get_or c.loop-j.y j 0 in
-    let low : x ≡ get_or c.take32-x.result j 0 = h.left_x j (omega arith) in
-    let high : y ≡ get_or c.take32-y.result j 0 = h.left_y j (omega arith) in
-    let byte = (c.slice_known-1.given (a.a + j)).fits in
-    let small : x < 256 = omega (arith, byte, low, c.take32-x.ensures.1 j (omega arith)) in
-    let m = masked_byte a.s x y c.wrapping_sub_u8.result c.wrapping_add_u8.result c.wrapping_sub_u8-in-loop-j.result
-    c.requires.0 small c.wrapping_sub_u8.type_inv c.wrapping_sub_u8-in-loop-j.type_inv
-    c.wrapping_sub_u8.ensures.value c.wrapping_add_u8.ensures.value c.wrapping_sub_u8-in-loop-j.ensures.value in
-    let p : Picked a.s x y c.wrapping_add_u8.result c.wrapping_sub_u8-in-loop-j.result = record { lower = m.0; upper = m.1 } in (
-      omega arith,
-      half_more a.s j c.take32-x.result c.take32-y.result c.loop-j.x c.loop-j.y
-          c.wrapping_add_u8.result c.wrapping_sub_u8-in-loop-j.result (omega (arith, c.take32-x.ensures.0))
-          (omega (arith, c.take32-y.ensures.0)) h (taken a.s low high p),
-    )
+    let d : ℕ = (y + (256 - x)) % 256 in
+    let u : ℕ = bit_and d (s * 255) in
+    let x' : ℕ = (x + u) % 256 in
+    let y' : ℕ = (y + (256 - u)) % 256 in
+    let small : u ≤ d = and_le_l d _ in
+    let low : x < 256 = omega arith in
+    let high : y < 256 = omega arith in
+    let m = masked_byte s x y d x' y' c.requires.0 low (omega arith) (omega arith) (omega arith) refl (omega arith) in
+    let p : Picked s x y x' y' = record { lower = m.0; upper = m.1 } in
+    half_more s j c.copy_from_slice-2.new.self c.copy_from_slice.new.self c.loop-j.x c.loop-j.y x' y'
+    (omega (arith, c.copy_from_slice-2.ensures.len)) (omega (arith, c.copy_from_slice.ensures.len)) h
+    (taken-picked s (h.left_x j (omega arith)) (h.left_y j (omega arith)) p)
 
 pub returns : goal.returns
 returns c = let a = c.args in
-    let h = c.loop-j.invariant.1 in
-    let all : c.loop-j.j ≡ 32 = omega arith in
-    c.put32-2.ensures ∙ ap (written 32 a.a (λ i. get_or c.loop-j.x i 0)) c.put32.ensures
-    ∙ parts_switched 32 a.a a.gap a.s a.blocks.now (λ i. get_or c.loop-j.x i 0) (λ i. get_or c.loop-j.y i 0)
-    c.requires.0 c.requires.1
-    (λ i m. taken a.s (c.take32-x.ensures.1 i m) (c.take32-y.ensures.1 i m) (h.done i (omega arith)))
+    let h = c.loop-j.invariant in
+    let x = taken 32 _ a.a a.blocks.now c.copy_from_slice-2.new.self (omega arith) (omega arith) c.copy_from_slice-2.ensures.after in
+    let y = taken 32 _ (a.a + a.gap) a.blocks.now c.copy_from_slice.new.self (omega arith) (omega arith) c.copy_from_slice.ensures.after in
+    let f : ℕ → ℕ = λ i. get_or c.loop-j.x i 0 in
+    let g : ℕ → ℕ = λ i. get_or c.loop-j.y i 0 in
+    let upper = part-filled 32 (a.a + a.gap) _ g a.blocks.now c.copy_from_slice-3.new.self (omega arith) (omega arith)
+    (c.copy_from_slice-3.ensures.len ∙ omega arith) (λ j m. ap (λ (t : List ℕ). get_or t j 0) c.copy_from_slice-3.ensures.after) in
+    part-filled 32 a.a _ f _ c.copy_from_slice-4.new.self
+    (omega (arith, ap length upper, length-written 32 (a.a + a.gap) g a.blocks.now)) (omega arith)
+    (c.copy_from_slice-4.ensures.len ∙ omega arith) (λ j m. ap (λ (t : List ℕ). get_or t j 0) c.copy_from_slice-4.ensures.after)
+    ∙ ap (written 32 a.a f) upper
+    ∙ parts_switched 32 a.a a.gap a.s a.blocks.now f g c.requires.0 c.requires.1
+    (λ i m. taken-picked a.s (x.here i m) (y.here i m) (h.done i (omega arith)))
