@@ -9,7 +9,7 @@ use Rattle.cmd_picture.proofs.Switches.{bits_few, bits_each}
 use Rattle.cmd_picture.proofs.put_heading.Goals as goal
 
 pub put_bits-w-requires : goal.put_bits-w-requires
-put_bits-w-requires c = omega (arith, bits_few c.args.n c.args.bits.now c.requires.1 c.requires.2)
+put_bits-w-requires c = omega (arith, bits_few c.args.setting.now.places c.args.setting.now.bits.now c.args.setting.now.few c.args.setting.now.long)
 
 pub slice_bounds-columns-end : goal.slice_bounds-columns-end
 slice_bounds-columns-end c = put_within c.put_bits-w.ensures
@@ -19,7 +19,7 @@ slice_bounds-put_line-end c = sym (length-take-le _ _ (put_within c.put_bits-w.e
 
 pub put_line-requires : goal.put_line-requires
 put_line-requires c =
-    let e = put_front c.put_bits-w.ensures in (c.requires.0, c.requires.1, ap length e ∙ bits_each c.args.n c.args.bits.now c.requires.0 c.requires.2, rw e (omega (arith, c.requires.3, c.put_text-a.ensures.place, c.put_text-a.auto)))
+    let e = put_front c.put_bits-w.ensures in (c.args.setting.now.some, c.args.setting.now.few, ap length e ∙ bits_each c.args.setting.now.places c.args.setting.now.bits.now c.args.setting.now.some c.args.setting.now.long, rw e (omega (arith, c.requires, c.put_text-a.ensures.place, c.put_text-a.auto)))
 
 pub returns : goal.returns
-returns c = put_then (omega (arith, c.requires.3)) c.put_text-a.ensures (rw (put_front c.put_bits-w.ensures) at c.put_line.ensures)
+returns c = put_then (omega (arith, c.requires)) c.put_text-a.ensures (rw (put_front c.put_bits-w.ensures) at c.put_line.ensures)

@@ -6,38 +6,36 @@ use native.Mathlib.Omega.{arith}
 use lib.ListN.{take, replicate}
 use lib.Seq.{length-take-le}
 use Rattle.network.specs.Log.{entry_words}
+use Rattle.cmd_picture.proofs.Switches.{are_bits}
 use Rattle.cmd_picture.proofs.Logged.{picture_in, heading_room, rows_room, picture_put, log_room}
 use Rattle.cmd_picture.proofs.put_picture.Goals as goal
 
 pub slice_bounds-apply-end : goal.slice_bounds-apply-end
-slice_bounds-apply-end c = sym (length-take-le _ _ (omega (arith, c.requires.1)))
+slice_bounds-apply-end c = sym (length-take-le _ _ (omega (arith, c.args.setting.now.few)))
 
 pub put_heading-a-requires : goal.put_heading-a-requires
-put_heading-a-requires c = let n = c.args.n in
-    let bits = c.args.bits.now in
+put_heading-a-requires c = let n = c.args.setting.now.places in
+    let bits = c.args.setting.now.bits.now in
     let log = c.apply.new.log in
-    let e = picture_in n bits (take n (replicate 16 0)) (replicate (entry_words * 49) 0) c.requires.1 c.requires.2 c.requires.3
-    (length-take-le n (replicate 16 0) (omega (arith, c.requires.1))) refl c.apply.ensures in
-    (c.requires.0, c.requires.1, c.requires.2, heading_room n bits log e c.args.out.now c.args.at c.requires.4)
+    let e = picture_in n bits (take n (replicate 16 0)) (replicate (entry_words * 49) 0) c.args.setting.now.few c.args.setting.now.long (are_bits _ c.args.setting.now.binary)
+    (length-take-le n (replicate 16 0) (omega (arith, c.args.setting.now.few))) refl c.apply.ensures in
+    heading_room n bits log e c.args.out.now c.args.at c.requires
 
 pub put_rows-requires : goal.put_rows-requires
-put_rows-requires c = let n = c.args.n in
-    let bits = c.args.bits.now in
+put_rows-requires c = let n = c.args.setting.now.places in
+    let bits = c.args.setting.now.bits.now in
     let log = c.apply.new.log in
-    let e = picture_in n bits (take n (replicate 16 0)) (replicate (entry_words * 49) 0) c.requires.1 c.requires.2 c.requires.3
-    (length-take-le n (replicate 16 0) (omega (arith, c.requires.1))) refl c.apply.ensures in (
-      c.requires.0,
-      c.requires.1,
-      c.requires.2,
-      log_room n bits log c.requires.1 c.requires.2 c.apply.auto.log,
-      rows_room n bits log e c.args.out.now c.args.at c.requires.4 c.put_heading-a.ensures,
+    let e = picture_in n bits (take n (replicate 16 0)) (replicate (entry_words * 49) 0) c.args.setting.now.few c.args.setting.now.long (are_bits _ c.args.setting.now.binary)
+    (length-take-le n (replicate 16 0) (omega (arith, c.args.setting.now.few))) refl c.apply.ensures in (
+      log_room n bits log c.args.setting.now.few c.args.setting.now.long c.apply.auto.log,
+      rows_room n bits log e c.args.out.now c.args.at c.requires c.put_heading-a.ensures,
     )
 
 pub returns : goal.returns
-returns c = let n = c.args.n in
-    let bits = c.args.bits.now in
+returns c = let n = c.args.setting.now.places in
+    let bits = c.args.setting.now.bits.now in
     let log = c.apply.new.log in
-    let e = picture_in n bits (take n (replicate 16 0)) (replicate (entry_words * 49) 0) c.requires.1 c.requires.2 c.requires.3
-    (length-take-le n (replicate 16 0) (omega (arith, c.requires.1))) refl c.apply.ensures in
-    picture_put n bits log e c.args.out.now c.args.at c.requires.4 c.put_heading-a.ensures
+    let e = picture_in n bits (take n (replicate 16 0)) (replicate (entry_words * 49) 0) c.args.setting.now.few c.args.setting.now.long (are_bits _ c.args.setting.now.binary)
+    (length-take-le n (replicate 16 0) (omega (arith, c.args.setting.now.few))) refl c.apply.ensures in
+    picture_put n bits log e c.args.out.now c.args.at c.requires c.put_heading-a.ensures
     c.put_rows.ensures

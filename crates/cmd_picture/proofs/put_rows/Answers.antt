@@ -10,14 +10,14 @@ loop-place-init c = rowing_starts _ _ _ _ _ _
 
 pub put_row-end-requires : goal.put_row-end-requires
 put_row-end-requires c =
-    (c.requires.0, c.requires.1, omega (arith, c.requires.1, c.loop-place-test.true), c.requires.2, c.requires.3, row_room _ _ _ _ _ _ c.requires.4 c.loop-place.invariant c.loop-place-test.true)
+    (omega (arith, c.args.setting.now.few, c.loop-place-test.true), c.requires.0, row_room _ _ _ _ _ _ c.requires.1 c.loop-place.invariant c.loop-place-test.true)
 
 pub loop-place-preserved : goal.loop-place-preserved
 loop-place-preserved c =
-    rowing_more _ _ _ _ _ _ c.requires.4 c.loop-place.invariant c.loop-place-test.true (search rules) c.put_row-end.ensures
+    rowing_more _ _ _ _ _ _ c.requires.1 c.loop-place.invariant c.loop-place-test.true (search rules) c.put_row-end.ensures
 
 pub shape_of-out : goal.shape_of-out
 shape_of-out c = c.loop-place.invariant.same
 
 pub returns : goal.returns
-returns c = rowing_ends _ _ _ _ _ _ c.requires.4 c.loop-place.invariant c.loop-place-test.false
+returns c = rowing_ends _ _ _ _ _ _ c.requires.1 c.loop-place.invariant c.loop-place-test.false

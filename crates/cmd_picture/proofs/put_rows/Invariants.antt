@@ -4,4 +4,4 @@ use Rattle.cmd_picture.proofs.Marks.{Rowing}
 use Rattle.cmd_picture.proofs.put_rows.Given as goal
 
 abbrev pub invariant-loop-place : goal.invariant-loop-place
-invariant-loop-place l = Rowing l.n l.log l.bits l.n l.initial.out l.at l.out l.end l.place
+invariant-loop-place l = Rowing l.setting.places l.log l.setting.bits.now l.setting.places l.initial.out l.at l.out l.end l.place
