@@ -34,14 +34,14 @@ module _ (n : ℕ) (given out : List ℕ) where
   unfolding convert_questions
   yes_all h1 h4 h4' h7 = yes_each (convert_questions n given out) (few_yes n h1, (count_yes n given h4, (count_yes n out h4', (bits_yes given h7, tt))))
 
-  module _ (from : Topology) {a : Answer} where
+  module _ (from : Topology) where
     -- a refused call: nothing is written
-    pub refused : {q p : ℕ} → verdict ≡ no_at q p → a ≡ refusal q p → outcome a out ≡ convert_call from n given out
+    pub refused : {q p : ℕ} → verdict ≡ no_at q p → outcome (refusal q p) out ≡ convert_call from n given out
     unfolding convert_call
-    refused e r = ends_refused _ _ _ _ e r refl
+    refused e = ends_refused _ _ _ _ e refl refl
 
     -- an accepted one: all of `out` is the other wiring's setting
-    pub taken : {out' : List ℕ} → verdict ≡ all_yes → a ≡ accepted 0 → length out' ≡ length out → out' ≡ converted from n given
+    pub taken : {a : Answer} {out' : List ℕ} → verdict ≡ all_yes → a ≡ accepted 0 → length out' ≡ length out → out' ≡ converted from n given
         → outcome a out' ≡ convert_call from n given out
     unfolding convert_call
     taken e r long is =
