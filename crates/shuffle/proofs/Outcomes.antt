@@ -1,14 +1,16 @@
 -- What a shuffle comes to, return by return.
 -- Assumes nothing.
-use mathlib.Core.Path.{◌≡◌, sym, ap, ◌∙◌}
+use mathlib.Core.Path.{◌≡◌, refl, sym, ap, ◌∙◌}
 use mathlib.Core.Bool.{true}
 use mathlib.Core.List.{List, [], ◌∷◌, ◌++◌}
 use Prim.Native.Nat.{ℕ, ◌≤◌, ◌<◌}
 use native.Mathlib.Omega.{arith}
 use lib.ListN.{length, take, drop}
 use lib.Seq.{length-take-le}
-use Rattle.answers.specs.declared.Answer.{Answer}
-use Rattle.answers.specs.Answers.{refusal, accepted}
+use Rattle.std.specs.Prelude.{Some, None, Ok, Err}
+use Rattle.answers.specs.declared.Reason.TheVariants.{Places, OutputRoom, Words}
+use Rattle.answers.specs.declared.Refusal.{Refusal}
+use Rattle.answers.specs.Answers.{number_of}
 use Rattle.answers.specs.Questions.{all_yes, no_at, first_no}
 use Rattle.answers.specs.Buffers.{overlay}
 use Rattle.answers.specs.Outcomes.{beside_of}
@@ -19,11 +21,8 @@ use Rattle.permutation.proofs.Laws.{identity-length}
 use Rattle.questions.specs.Asked.{places_few, room_for}
 use Rattle.questions.proofs.Lists.{first_no_lem}
 use Rattle.questions.proofs.Asked.{few_yes, few_no, room_yes, room_no}
-use Rattle.shuffle.specs.declared.Drawn.{Drawn}
-use Rattle.shuffle_fair.specs.declared.Choice.{Choice}
-use Rattle.shuffle_fair.specs.declared.Choice.TheVariants.{Enough, RunOut}
 use Rattle.shuffle_fair.specs.Words.{chosen}
-use Rattle.shuffle_fair.specs.Choosing.{supply_asks, verdict_of, used_of, Chose}
+use Rattle.shuffle_fair.specs.Choosing.{supply_asks, Chose}
 use Rattle.shuffle.specs.Shuffled.{stepped, shuffled, shuffle_asks, drawn, shuffle_call}
 use Rattle.shuffle.proofs.Steps.{stepped-front, stepped-length}
 
@@ -36,21 +35,20 @@ module _ (n : ℕ) (words before : List ℕ) where
   pub asks_pass : n ≤ 1024 → n ≤ length before → (chosen n words).enough ≡ true → first_no (shuffle_asks n words before) ≡ all_yes
   asks_pass l h e = yes_each (shuffle_asks n words before) (few_yes n l, (room_yes n (length before) h, (e, tt)))
 
-  refused : {r : Drawn} {q : ℕ} → first_no (shuffle_asks n words before) ≡ no_at q 0 → r ≡ record { answer = refusal q 0; used = 0 }
-      → drawn r before ≡ shuffle_call n words before
+  refused : (r : Refusal) → first_no (shuffle_asks n words before) ≡ no_at (number_of r.reason) r.place
+      → drawn (Err r) before ≡ shuffle_call n words before
   unfolding shuffle_call
-  refused v e = rw (v, e)
+  refused r v = rw v
 
-  pub shuffle_large : {r : Drawn} → 1024 < n → r ≡ record { answer = refusal 1 0; used = 0 } → drawn r before ≡ shuffle_call n words before
-  shuffle_large l e = refused (first_no_lem 0 (shuffle_asks n words before) (few_no n l)) e
+  pub shuffle_large : 1024 < n → drawn (Err (record { reason = Places; place = 0 })) before ≡ shuffle_call n words before
+  shuffle_large l = refused (record { reason = Places; place = 0 }) (first_no_lem 0 (shuffle_asks n words before) (few_no n l))
 
-  pub shuffle_short : {r : Drawn} → n ≤ 1024 → length before < n → r ≡ record { answer = refusal 13 0; used = 0 }
-      → drawn r before ≡ shuffle_call n words before
-  shuffle_short s l e = refused (first_no_lem 1 (shuffle_asks n words before) (few_yes n s, room_no n (length before) l)) e
+  pub shuffle_short : n ≤ 1024 → length before < n → drawn (Err (record { reason = OutputRoom; place = 0 })) before ≡ shuffle_call n words before
+  shuffle_short s l = refused (record { reason = OutputRoom; place = 0 }) (first_no_lem 1 (shuffle_asks n words before) (few_yes n s, room_no n (length before) l))
 
-  pub shuffle_out : {r : Drawn} {kept : List ℕ} {choice : Choice} → n ≤ 1024 → n ≤ length before → Chose n words kept choice
-      → choice ≡ RunOut → r ≡ record { answer = refusal 18 0; used = 0 } → drawn r before ≡ shuffle_call n words before
-  shuffle_out s l c t e = refused (asks_supply s l ∙ c.asked ∙ ap verdict_of t) e
+  pub shuffle_out : {kept : List ℕ} → n ≤ 1024 → n ≤ length before → Chose n words kept None
+      → drawn (Err (record { reason = Words; place = 0 })) before ≡ shuffle_call n words before
+  shuffle_out s l c = refused (record { reason = Words; place = 0 }) (asks_supply s l ∙ c.asked)
 
   -- what the exchanges leave of the numbered front is the shuffle, over the front
   laid : (taken : List ℕ) → length taken ≡ n
@@ -62,14 +60,14 @@ module _ (n : ℕ) (words before : List ℕ) where
       ∙ ap (λ k. shuffled taken ++ drop k before) (sym (stepped-length m taken (identity m) ∙ identity-length m))
       ∙ sym (overlay-front before (shuffled taken))
 
-  pub shuffle_done : {a : Answer} {kept numbered after : List ℕ} {choice : Choice} {used : ℕ} → n ≤ 1024 → n ≤ length before
-      → Chose n words kept choice → choice ≡ Enough used → n ≤ length kept → a ≡ accepted n
+  pub shuffle_done : {kept numbered after : List ℕ} {used : ℕ} → n ≤ 1024 → n ≤ length before
+      → Chose n words kept (Some used) → n ≤ length kept
       → numbered ≡ identity n ++ drop n before → after ≡ stepped (length (take n kept)) (take n kept) numbered
-      → drawn (record { answer = a; used = used }) after ≡ shuffle_call n words before
+      → drawn (Ok (record { count = n; used = used })) after ≡ shuffle_call n words before
   unfolding shuffle_call
-  shuffle_done {kept = kept} {used = used} s l c t f e g h =
-      let yes : first_no (supply_asks n words) ≡ all_yes = c.asked ∙ ap verdict_of t in
-      let front : (chosen n words).taken ≡ take n kept = c.taken (ap verdict_of t) in
-      let count : (chosen n words).used ≡ used = sym (ap (λ v. beside_of v (chosen n words).used) yes) ∙ c.used ∙ ap used_of t in
+  shuffle_done {kept = kept} {used = used} s l c f g h =
+      let yes : first_no (supply_asks n words) ≡ all_yes = c.asked in
+      let front : (chosen n words).taken ≡ take n kept = c.taken refl in
+      let count : (chosen n words).used ≡ used = sym (ap (λ v. beside_of v (chosen n words).used) yes) ∙ c.used in
       let left = h ∙ ap (stepped (length (take n kept)) (take n kept)) g ∙ laid (take n kept) (length-take-le n kept f) in
-      rw (asks_supply s l ∙ yes, front, count, e, left)
+      rw (asks_supply s l ∙ yes, front, count, left)

@@ -1,40 +1,16 @@
 -- Numbering a list, and the exchanges of a shuffle.
 -- Assumes nothing.
-use mathlib.Core.Path.{◌≡◌, refl, sym, ap, ◌∙◌}
+use mathlib.Core.Path.{◌≡◌, refl, ap, ◌∙◌}
 use mathlib.Core.List.{List, [], ◌∷◌, ◌++◌}
 use Prim.Native.Nat.{ℕ, zero, suc, ◌+◌, ◌-◌, ◌≤◌, ◌<◌, ◌%◌, ◌^◌}
 use native.Mathlib.Nat.{mod-lt, mod-le}
 use native.Mathlib.Numerals.{add-one}
 use native.Mathlib.Omega.{arith}
-use lib.ListN.{length, get_or, set, drop, length-set, get_or-append}
-use lib.Seq.{drop-cons, set-append_left}
+use lib.ListN.{length, get_or, set, length-set, get_or-append}
+use lib.Seq.{set-append_left}
 use Rattle.permutation.specs.Permutations.{IsPermutation, tabulate, identity, exchanged}
-use Rattle.permutation.proofs.Tables.{tabulate_more}
 use Rattle.permutation.proofs.Laws.{identity_permutation, exchanged_permutation}
 use Rattle.shuffle.specs.Shuffled.{partner, stepped, shuffled}
-
--- ---- 0 to n - 1 over the front of a list
-
-pub record Numbering (before out : List ℕ) (n i : ℕ) : Type 0 where
-  pub within : i ≤ n
-  pub same : length out ≡ length before
-  pub whole : out ≡ identity i ++ drop i before
-
-module _ (before : List ℕ) (n : ℕ) where
-  pub numbering_starts : Numbering before before n 0
-  unfolding tabulate
-  numbering_starts = record { within = omega arith; same = refl; whole = refl }
-
-  pub numbering_more : {out : List ℕ} {i : ℕ} → i < n → n ≤ length before → Numbering before out n i → Numbering before (set out i i) n (i + 1)
-  numbering_more {out} {i} l h N =
-      record {
-        within = omega arith;
-        same = length-set out i i ∙ N.same;
-        whole =
-            ap (λ es. set es i i) (N.whole ∙ ap (λ es. identity i ++ es) (drop-cons before i 0 (omega arith)))
-            ∙ tabulate_more (λ k. k) i (get_or before i 0) (drop (suc i) before)
-            ∙ ap (λ k. identity (i + 1) ++ drop k before) (sym (add-one i));
-      }
 
 -- ---- the exchanges
 
@@ -49,23 +25,15 @@ unfolding stepped
 stepped-length zero words es = refl
 stepped-length (suc i) words es = simp length-set (stepped-length i words es)
 
-pub record Stepping (words before out : List ℕ) (i : ℕ) : Type 0 where
-  pub within : i ≤ length words
-  pub same : length out ≡ length before
-  pub whole : out ≡ stepped i words before
-
 module _ (words before : List ℕ) where
-  pub stepping_starts : Stepping words before before 0
+  pub none_stepped : before ≡ stepped 0 words before
   unfolding stepped
-  stepping_starts = record { within = omega arith; same = refl; whole = refl }
+  none_stepped = refl
 
-  pub stepping_more : {out : List ℕ} {i j : ℕ} → i < length words → j ≡ partner (length words) i (get_or words i 0) → Stepping words before out i
-      → Stepping words before (exchanged out i j) (i + 1)
+  pub one-stepped : {out : List ℕ} (i : ℕ) {j : ℕ} → j ≡ partner (length words) i (get_or words i 0) → out ≡ stepped i words before
+      → exchanged out i j ≡ stepped (i + 1) words before
   unfolding stepped
-  stepping_more l e S = record { within = omega arith; same = simp length-set S.same; whole = rw (e, S.whole, add-one) }
-
-  pub stepping_ends : {out : List ℕ} {i : ℕ} → length words ≤ i → Stepping words before out i → out ≡ stepped (length words) words before
-  stepping_ends {i = i} l S = let e : i ≡ length words = omega (arith, S.within) in S.whole ∙ ap (λ k. stepped k words before) e
+  one-stepped i e S = rw (e, S, add-one)
 
 -- exchanges in the front of a list leave the rest
 exchanged-front : (a b : List ℕ) (i j : ℕ) → i < length a → j < length a → exchanged (a ++ b) i j ≡ exchanged a i j ++ b

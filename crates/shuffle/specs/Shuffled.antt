@@ -1,7 +1,9 @@
 -- A permutation shuffled by words (01: draw; 02, F-5: fair drawing).
 -- Assumes nothing: these are definitions.
-use Rattle.std.specs.Prelude.{◌≡◌, true, ◌&&◌, List, [], ◌∷◌, ℕ, zero, suc, ◌+◌, ◌-◌, ◌%◌, ◌^◌, ◌≤◌, eqb, length, get_or}
+use Rattle.std.specs.Prelude.{Result, Ok, Err, ◌≡◌, true, ◌&&◌, List, [], ◌∷◌, ℕ, zero, suc, ◌+◌, ◌-◌, ◌%◌, ◌^◌, ◌≤◌, eqb, length, get_or}
 use Rattle.answers.specs.declared.Answer.{Answer}
+use Rattle.answers.specs.declared.Refusal.{Refusal}
+use Rattle.answers.specs.Answers.{answer_with}
 use Rattle.answers.specs.Questions.{Question, Verdict, first_no}
 use Rattle.answers.specs.Outcomes.{answer_of, buffer_of, beside_of}
 use Rattle.permutation.specs.Permutations.{how_many, identity, exchanged}
@@ -42,8 +44,13 @@ pub record Shuffled : Type 0 where
   pub used : ℕ
   pub buffer : List ℕ
 
-abbrev pub drawn : Drawn → List ℕ → Shuffled
-drawn r out = record { answer = r.answer; used = r.used; buffer = out }
+abbrev pub used_in : Result Drawn Refusal → ℕ
+used_in (Ok d) = d.used
+used_in (Err r) = 0
+
+-- what a call gives, with the entries as it leaves them
+abbrev pub drawn : Result Drawn Refusal → List ℕ → Shuffled
+drawn r out = record { answer = answer_with (λ (d : Drawn). d.count) r; used = used_in r; buffer = out }
 
 abbrev pub shuffled_of : Verdict → ℕ → ℕ → List ℕ → List ℕ → Shuffled
 shuffled_of v n used order out = record { answer = answer_of v n; used = beside_of v used; buffer = buffer_of v order out }

@@ -2,16 +2,15 @@
 #![tactic(auto)]
 
 ghost use Rattle.std.specs.Prelude.{◌≡◌, ◌++◌, ◌≤◌, ◌<◌, length, drop};
-ghost use Rattle.answers.specs.Answers.{refusal};
 ghost use Rattle.permutation.specs.Permutations.{identity};
 ghost use Rattle.shuffle.specs.Shuffled.{partner, stepped, drawn, shuffle_call};
 
-use shuffle_fair::{Choice, wide};
+use answers::{Reason, Refusal};
 
-// An answer, and beside it how many of the words were used: 0 in a refusal.
-#[derive(Clone, Copy)]
+/// How many entries were drawn, and how many of the words that used.
+#[derive(Clone, Copy, Debug, PartialEq, Eq)]
 pub struct Drawn {
-    pub answer: answers::Answer,
+    pub count: usize,
     pub used: usize,
 }
 
@@ -20,10 +19,8 @@ fn number(n: usize, out: &mut [u16])
     requires { (n ≤ length out.old) × (n ≤ 1024) }
     ensures { out.new ≡ identity n ++ drop n out.old }
 {
-    let mut i = 0;
-    while i < n {
-        out[i] = i as u16;
-        i += 1;
+    for (i, entry) in out[..n].iter_mut().enumerate() {
+        *entry = i as u16;
     }
 }
 
@@ -32,7 +29,7 @@ fn partner_of(n: usize, i: usize, word: u32) -> usize
     requires { (i < n) × (n ≤ 1024) }
     ensures { (result ≡ partner n i word) × (result < n) }
 {
-    i + wide(word) % (n - i)
+    i + word as usize % (n - i)
 }
 
 // The exchanges of all the words.
@@ -41,46 +38,26 @@ fn exchange(words: &[u32], out: &mut [u16])
     ensures { out.new ≡ stepped (length words.now) words.now out.old }
 {
     let n = words.len();
-    let mut i = 0;
-    while i < n {
-        let j = partner_of(n, i, words[i]);
-        let a = out[i];
-        let b = out[j];
-        out[i] = b;
-        out[j] = a;
-        i += 1;
-    }
-}
-
-// Refused at place 0.
-fn refused(number: usize) -> Drawn
-    ensures { result ≡ record { answer = refusal number 0; used = 0 } }
-{
-    Drawn {
-        answer: answers::refuse(number, 0),
-        used: 0,
+    for (i, word) in words.iter().enumerate() {
+        out.swap(i, partner_of(n, i, *word));
     }
 }
 
 // The call keeps no log: its places may follow the words.
-pub fn shuffle(n: usize, words: &[u32], out: &mut [u16]) -> Drawn
+pub fn shuffle(n: usize, words: &[u32], out: &mut [u16]) -> Result<Drawn, Refusal>
     ensures { drawn result out.new ≡ shuffle_call n words.now out.old }
 {
     if counts::MOST_PLACES < n {
-        return refused(1);
+        return Err(Refusal::of(Reason::Places));
     }
     if out.len() < n {
-        return refused(13);
+        return Err(Refusal::of(Reason::OutputRoom));
     }
     let mut kept = [0u32; 1024];
-    let choice = shuffle_fair::choose(n, words, &mut kept);
-    let Choice::Enough(used) = choice else {
-        return refused(18);
+    let Some(used) = shuffle_fair::choose(n, words, &mut kept) else {
+        return Err(Refusal::of(Reason::Words));
     };
     number(n, out);
     exchange(&kept[..n], out);
-    Drawn {
-        answer: answers::accept(n),
-        used,
-    }
+    Ok(Drawn { count: n, used })
 }

@@ -12,22 +12,11 @@ use borrow.Author.Tests.{lt-ltb, le-ltb}
 use lib.Seq.{drop-cons, take-suc-set, take-set-le, append_snoc}
 use Rattle.permutation.specs.Permutations.{bit}
 use Rattle.permutation.proofs.Sweeps.{bit_small}
+use Rattle.std.specs.Prelude.{Some, None}
 use Rattle.shuffle_fair.specs.Words.{limit, fit, Chosen, enough_with, takes, skips, chosen}
 use Rattle.shuffle_fair.specs.Choosing.{Chose}
-use Rattle.shuffle_fair.specs.declared.Choice.TheVariants.{Enough, RunOut}
 use Rattle.answers.proofs.Questions.{never}
 use Rattle.shuffle_fair.proofs.Words.{chosen-takes, chosen-skips}
-
--- ---- one word
-
-module _ (d word : ℕ) where
-  pub word_taken : word < limit d → (1 ≡ bit (fit d word)) × (1 ≤ 1)
-  word_taken h = (sym (ap bit (lt-ltb word (limit d) h)), omega arith)
-
-  pub word_skipped : limit d ≤ word → (0 ≡ bit (fit d word)) × (0 ≤ 1)
-  word_skipped h = (sym (ap bit (le-ltb word (limit d) h)), omega arith)
-
--- ---- all of them
 
 -- words taken and words used before others
 abbrev behind : List ℕ → ℕ → Chosen → Chosen
@@ -98,7 +87,7 @@ module _ (n : ℕ) (words before : List ℕ) where
             whole = step (fit (n - i) word) refl;
           }
 
-    pub choosing_ends : n ≤ i → Chose n words kept (Enough used)
+    pub choosing_ends : n ≤ i → Chose n words kept (Some used)
     unfolding chosen
     choosing_ends h =
         let e : i ≡ n = omega (arith, C.within) in
@@ -106,7 +95,7 @@ module _ (n : ℕ) (words before : List ℕ) where
         let is : chosen n words ≡ enough_with (take n kept) used = C.whole ∙ rw (e, z, add-zero used, append-nil (take n kept)) in
         record { asked = rw is; used = rw is; taken = λ y. ap (λ (c : Chosen). c.taken) is }
 
-    pub choosing_fails : i < n → length words ≤ used → Chose n words kept RunOut
+    pub choosing_fails : i < n → length words ≤ used → Chose n words kept None
     unfolding chosen
     choosing_fails h l =
         let left : n - i ≡ suc (n - suc i) = omega arith in

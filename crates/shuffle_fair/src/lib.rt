@@ -6,19 +6,6 @@ ghost use Rattle.permutation.specs.Permutations.{bit};
 ghost use Rattle.shuffle_fair.specs.Words.{limit, fit};
 ghost use Rattle.shuffle_fair.specs.Choosing.{Chose};
 
-// So many words were enough, or all of them were too few.
-#[derive(Clone, Copy)]
-pub enum Choice {
-    Enough(usize),
-    RunOut,
-}
-
-pub fn wide(x: u32) -> usize
-    ensures { result ≡ x }
-{
-    x as usize
-}
-
 // The first word that is skipped with d places left.
 fn limit_of(d: usize) -> usize
     requires { 0 < d }
@@ -32,25 +19,23 @@ fn taken(d: usize, word: u32) -> usize
     requires { 0 < d }
     ensures { (result ≡ bit (fit d word)) × (result ≤ 1) }
 {
-    if wide(word) < limit_of(d) { 1 } else { 0 }
+    usize::from((word as usize) < limit_of(d))
 }
 
 // The first word that is fit for n places left, then the first behind it that is fit for n - 1, and so on, over the front of
-// kept. A word that is skipped is overwritten by the next.
-pub fn choose(n: usize, words: &[u32], kept: &mut [u32]) -> Choice
+// kept. A word that is skipped is overwritten by the next. How many words that used, or nothing where they run out.
+pub fn choose(n: usize, words: &[u32], kept: &mut [u32]) -> Option<usize>
     requires { n ≤ length kept.old }
     ensures { Chose n words.now kept.new result }
 {
     let mut i = 0;
     let mut used = 0;
+    // No `for`: the places go on only where a word is taken.
     while i < n {
-        if words.len() <= used {
-            return Choice::RunOut;
-        }
-        let word = words[used];
+        let word = *words.get(used)?;
         kept[i] = word;
         i += taken(n - i, word);
         used += 1;
     }
-    Choice::Enough(used)
+    Some(used)
 }

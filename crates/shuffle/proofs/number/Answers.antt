@@ -1,16 +1,16 @@
 -- `shuffle::number` meets its contract.
 -- Assumes nothing.
-use mathlib.Core.Path.{◌≡◌}
+use mathlib.Core.Path.{◌≡◌, ap, ◌∙◌}
+use mathlib.Core.List.{List, ◌++◌}
+use Prim.Native.Nat.{ℕ}
 use native.Mathlib.Omega.{arith}
-use Rattle.shuffle.proofs.Steps.{numbering_starts, numbering_more}
+use lib.ListN.{length, drop}
+use lib.Seq.{length-take-le}
+use Rattle.permutation.proofs.Tables.{is_tabulate}
 use Rattle.shuffle.proofs.number.Goals as goal
 
-pub loop-i-init : goal.loop-i-init
-loop-i-init c = numbering_starts _ _
-
-pub loop-i-preserved : goal.loop-i-preserved
-loop-i-preserved c = numbering_more _ _ (omega arith) (omega arith) c.loop-i.invariant
-
 pub returns : goal.returns
-returns c = let e : c.loop-i.i ≡ c.args.n = omega arith in
-    rw e at c.loop-i.invariant.whole
+returns c = let n = c.args.n in
+    let out = c.args.out.now in
+    let long : length c.loop-i.entry-items ≡ n = c.loop-i.auto.entry-items ∙ length-take-le n out (omega arith) in
+    ap (λ (l : List ℕ). l ++ drop n out) (is_tabulate (λ j. j) n c.loop-i.entry-items long (λ j l. c.loop-i.invariant j (omega arith)))
