@@ -12,7 +12,7 @@ use Rattle.std.specs.Prelude.{Result, Ok, Err}
 use Rattle.answers.specs.declared.Reason.TheVariants.{Places, BitCount, FormNumber, FillBits, InputEnd}
 use Rattle.answers.specs.declared.Refusal.{Refusal}
 use Rattle.answers.specs.Answers.{number_of}
-use Rattle.answers.specs.Questions.{Question, ask, all_yes, no_at, first_no}
+use Rattle.answers.specs.Questions.{Question, ask, Verdict, all_yes, no_at, first_no}
 use Rattle.answers.proofs.Questions.{each_yes, yes_each, asked-both, asked-first}
 use Rattle.counts.specs.Counts.{W}
 use Rattle.numbers.specs.Numbers.{number_questions, number_at, sevens, Reads}
@@ -29,6 +29,10 @@ use Rattle.rows.proofs.Reading.{row_refused, RowOf}
 use Rattle.sheets.specs.Sheet.{numbers_for}
 use Rattle.sheets.specs.Reading.{bits_in, all_zero}
 use Rattle.sheets.specs.Calls.{form_in, places_at, places_in, fourteens_at, head_in, head_questions, body_questions, bits_from}
+
+-- a refusal that a function made
+pub refusal_as : {r r' : Refusal} {v : Verdict} → r ≡ r' → v ≡ no_at (number_of r'.reason) r'.place → v ≡ no_at (number_of r.reason) r.place
+refusal_as e n = rw e n
 
 -- ---- the form, n, and room for the bits
 
