@@ -6,7 +6,6 @@ use Prim.Native.Nat.{ℕ, ◌*◌, ◌≤◌, ◌<◌}
 use native.Mathlib.Omega.{arith}
 use lib.ListN.{length, drop}
 use borrow.Author.Tests.{ltb-true, lt-ltb}
-use Rattle.answers.specs.declared.Answer.{Answer}
 use Rattle.answers.specs.Answers.{refusal, accepted}
 use Rattle.answers.specs.Questions.{all_yes, no_at, first_no, Numbered}
 use Rattle.answers.specs.Buffers.{overlay}
@@ -55,10 +54,9 @@ module _ (n r : ℕ) (list bits log : List ℕ) where
   rank_numbered = (omega arith, (omega arith, (omega arith, (omega arith, (omega arith, tt)))))
 
   -- a refused call: nothing is written
-  pub refused : {a : Answer} {q p : ℕ} → first_no (ranked_questions n r list bits log) ≡ no_at q p → a ≡ refusal q p
-      → ranked a list bits log ≡ ranked_call n r list bits log
+  pub refused : {q p : ℕ} → first_no (ranked_questions n r list bits log) ≡ no_at q p → ranked (refusal q p) list bits log ≡ ranked_call n r list bits log
   unfolding ranked_call
-  refused e f = rw (f, e)
+  refused e = rw e
 
   -- an accepted call: the order over the front of its list, and what the setter left
   module _
@@ -79,9 +77,8 @@ module _ (n r : ℕ) (list bits log : List ℕ) where
       logged : log' ≡ overlay log 0 (words (set_entries paper n))
       logged = S.log_is ∙ ap (λ m. overlay log 0 (words (set_entries paper m))) long
 
-      pub taken : {a : Answer} → length bits' ≡ length bits → a ≡ accepted count
-          → ranked a (order ++ drop n list) bits' log' ≡ ranked_call n r list bits log
+      pub taken : length bits' ≡ length bits → ranked (accepted count) (order ++ drop n list) bits' log' ≡ ranked_call n r list bits log
       unfolding ranked_call
-      taken {a} k f =
-          let told : a ≡ accepted (E n) = f ∙ ap accepted (S.count ∙ ap E long) in
+      taken k =
+          let told : accepted count ≡ accepted (E n) = ap accepted (S.count ∙ ap E long) in
           rw (rank_passes Y) (λ i. ranked (told i) (front i) (filled k i) (logged i))

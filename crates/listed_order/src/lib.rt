@@ -4,11 +4,14 @@
 #![tactic(auto)]
 
 ghost use Rattle.std.specs.Prelude.{◌≡◌, ◌*◌, ◌≤◌, ◌<◌, length};
+ghost use Rattle.answers.specs.Answers.{answer_from};
 ghost use Rattle.counts.specs.Counts.{W, E};
 ghost use Rattle.network.specs.Log.{entry_words};
 ghost use Rattle.setter.specs.Inner.{Sets};
 ghost use Rattle.orders_listed.specs.Ranks.{factorial, order_at};
 ghost use Rattle.listed_order.specs.Calls.{ranked, ranked_call};
+
+use answers::{Reason, Refusal};
 
 // 02, F-3: the call.
 pub fn ranked_order(
@@ -17,27 +20,27 @@ pub fn ranked_order(
     order: &mut [u16],
     bits: &mut [u8],
     log: &mut [u16],
-) -> answers::Answer
-    ensures { ranked result order.new bits.new log.new
+) -> Result<usize, Refusal>
+    ensures { ranked (answer_from result) order.new bits.new log.new
         ≡ ranked_call n r order.old bits.old log.old }
 {
     if 6 < n {
-        return answers::refuse(17, 0);
+        return Err(Refusal::of(Reason::SmallOrder));
     }
-    let orders = orders_listed::count_orders(n) as usize;
+    let orders = usize::from(orders_listed::count_orders(n));
     if orders <= r {
-        return answers::refuse(14, 0);
+        return Err(Refusal::of(Reason::Place));
     }
     if order.len() < n {
-        return answers::refuse(13, 0);
+        return Err(Refusal::of(Reason::OutputRoom));
     }
     if bits.len() != counts::switches(n) {
-        return answers::refuse(4, 0);
+        return Err(Refusal::of(Reason::BitCount));
     }
     if log.len() < entry_log::ENTRY_WORDS * counts::entries(n) {
-        return answers::refuse(5, 0);
+        return Err(Refusal::of(Reason::LogRoom));
     }
-    answers::accept(set_ranked(r as u16, &mut order[..n], bits, log))
+    Ok(set_ranked(r as u16, &mut order[..n], bits, log))
 }
 
 // After the questions: the r-th order of as many places as `order` has, and its setting. The setter counts the entries. Question
