@@ -9,25 +9,8 @@ ghost use Rattle.steps.specs.Sweeps.{each, act};
 ghost use Rattle.wirings.specs.Nets.{net_of, place_of, side_of, stepped};
 ghost use Rattle.control_sweeps.specs.Tables.{Below, Within, Covers, Reaches, Parted, Joined};
 
-fn wide(x: u8) -> u16
-    ensures { result ≡ x }
-{
-    x as u16
-}
-
-// Sets the first n bytes to 0.
-pub fn clear(xs: &mut [u8], n: usize)
-    requires { n ≤ length xs.old }
-    ensures { xs.new ≡ each (λ i. i) n (λ i x. 0) xs.old }
-{
-    let mut i = 0;
-    while i < n {
-        xs[i] = 0;
-        i += 1;
-    }
-}
-
 // n switches on the pairs that lie `step` from each other, from o on, under the bits from b on: they act on both tables.
+#[tactic(auto, using(crate::proofs::Places::pair_here))]
 fn act_by(
     vals: &mut [u16],
     trails: &mut [u16],
@@ -42,9 +25,8 @@ fn act_by(
     ensures { (vals.new ≡ act (stepped o step gap) bits.now b n vals.old)
         × (trails.new ≡ act (stepped o step gap) bits.now b n trails.old) }
 {
-    let mut i = 0;
-    while i < n {
-        let s = wide(bits[b + i]);
+    for i in 0..n {
+        let s = u16::from(bits[b + i]);
         let p = o + i * step;
         let q = p + gap;
         let x = vals[p];
@@ -55,7 +37,6 @@ fn act_by(
         let u = trails[q];
         trails[p] = select::pick(s, u, t);
         trails[q] = select::pick(s, t, u);
-        i += 1;
     }
 }
 
@@ -74,26 +55,23 @@ pub fn act_on(
     ensures { (vals.new ≡ act (λ p. place_of net (side_of net p)) bits.now b n vals.old)
         × (trails.new ≡ act (λ p. place_of net (side_of net p)) bits.now b n trails.old) }
 {
-    let spacing = wirings::spacing_of(net);
+    let spacing = net.spacing();
     let step = spacing.step;
-    let gap = spacing.gap;
     if step == 1 {
-        act_by(vals, trails, net.start, 1, gap, n, bits, b);
+        act_by(vals, trails, net.start, 1, spacing.gap, n, bits, b);
     } else {
-        act_by(vals, trails, net.start, step, gap, n, bits, b);
+        act_by(vals, trails, net.start, step, spacing.gap, n, bits, b);
     }
 }
 
 // The n bits from b become the last bits of the trails that lie `step` from each other, from o on.
+#[tactic(auto, using(crate::proofs::Places::pair_here))]
 fn last_by(bits: &mut [u8], b: usize, n: usize, trails: &[u16], o: usize, step: usize)
     requires { Reaches o step 0 n trails.now × (b + n ≤ length bits.old) }
     ensures { bits.new ≡ each (λ i. b + i) n (λ i x. get_or trails.now (o + i * step) 0 % 2) bits.old }
 {
-    let mut i = 0;
-    while i < n {
-        let t = trails[o + i * step];
-        bits[b + i] = (t % 2) as u8;
-        i += 1;
+    for i in 0..n {
+        bits[b + i] = (trails[o + i * step] % 2) as u8;
     }
 }
 
@@ -103,8 +81,7 @@ pub fn last_bits(bits: &mut [u8], b: usize, n: usize, trails: &[u16], net: wirin
     ensures { bits.new ≡ each (λ i. b + i) n (λ i x. get_or trails.now (place_of net (side_of net (i, false))) 0 % 2)
         bits.old }
 {
-    let spacing = wirings::spacing_of(net);
-    let step = spacing.step;
+    let step = net.spacing().step;
     if step == 1 {
         last_by(bits, b, n, trails, net.start, 1);
     } else {
@@ -113,6 +90,7 @@ pub fn last_bits(bits: &mut [u8], b: usize, n: usize, trails: &[u16], net: wirin
 }
 
 // Each value of the m places from o keeps its pair of k, and its trail gains its side.
+#[tactic(auto, using(crate::proofs::Places::here))]
 fn split_by(
     vals: &mut [u16],
     trails: &mut [u16],
@@ -126,14 +104,12 @@ fn split_by(
         × Within (place_of (net_of t o m apart)) m 32768 vals.old × Within (place_of (net_of t o m apart)) m 32768 trails.old }
     ensures { Parted (net_of t o m apart) k vals.old trails.old vals.new trails.new }
 {
-    let mut i = 0;
-    while i < m {
+    for i in 0..m {
         let p = o + i * apart;
         let v = vals[p];
         let trail = trails[p];
         trails[p] = trail * 2 + control_sides::side_of(t, k, v);
         vals[p] = control_sides::pair_of(t, k, v);
-        i += 1;
     }
 }
 
@@ -153,6 +129,7 @@ pub fn split_values(vals: &mut [u16], trails: &mut [u16], net: wirings::Net, k: 
 }
 
 // Each value of the m places from o is again what it was among k pairs, by the last bit of its trail, which its trail loses.
+#[tactic(auto, using(crate::proofs::Places::here))]
 fn join_by(
     vals: &mut [u16],
     trails: &mut [u16],
@@ -166,13 +143,11 @@ fn join_by(
         × Within (place_of (net_of t o m apart)) m 32768 vals.old }
     ensures { Joined (net_of t o m apart) k vals.old trails.old vals.new trails.new }
 {
-    let mut i = 0;
-    while i < m {
+    for i in 0..m {
         let p = o + i * apart;
         let trail = trails[p];
         vals[p] = control_sides::value_of(t, k, vals[p], trail % 2);
         trails[p] = trail / 2;
-        i += 1;
     }
 }
 

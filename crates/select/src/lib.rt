@@ -53,10 +53,10 @@ pub fn less(a: u16, b: u16) -> u16
     requires { (a < 32768) × (b < 32768) }
     ensures { result ≡ digit (ltb a b) }
 {
-    ((a as i16) < (b as i16)) as u16
+    u16::from((a as i16) < (b as i16))
 }
 
-// The greater of two, and the smaller, by a mask.
+// The greater of two, and the smaller, by a mask (no `max` or `min` of std: they compare without a sign, and branch in their text).
 pub fn most(a: u16, b: u16) -> u16
     requires { (a < 32768) × (b < 32768) }
     ensures { result ≡ cond (ltb a b) b a }

@@ -5,12 +5,12 @@ use Rattle.wirings.proofs.Halves.{inside_more}
 use Rattle.control_sweeps.proofs.Places.{reaches, acted}
 use Rattle.control_sweeps.proofs.act_on.Goals as goal
 
-pub spacing_of-spacing-requires : goal.spacing_of-spacing-requires
-spacing_of-spacing-requires c = (c.requires.0, inside_more c.requires.1.inside c.requires.1.short)
+pub spacing-spacing-requires : goal.spacing-spacing-requires
+spacing-spacing-requires c = (c.requires.0, inside_more c.requires.1.inside c.requires.1.short)
 
 pub act_by-requires : goal.act_by-requires
 act_by-requires c = let a = c.args in
-    let g = c.spacing_of-spacing in
+    let g = c.spacing-spacing in
     let r = reaches a.net g.result.step g.result.gap a.n in (
       r a.vals.now g.ensures c.requires.1 c.requires.3 1 (sym c.if-step-eq1.true),
       r a.trails.now g.ensures
@@ -21,7 +21,7 @@ act_by-requires c = let a = c.args in
 
 pub act_by-requires-else-step-eq1 : goal.act_by-requires-else-step-eq1
 act_by-requires-else-step-eq1 c = let a = c.args in
-    let g = c.spacing_of-spacing in
+    let g = c.spacing-spacing in
     let r = reaches a.net g.result.step g.result.gap a.n in (
       r a.vals.now g.ensures c.requires.1 c.requires.3 g.result.step refl,
       r a.trails.now g.ensures c.requires.2
@@ -32,14 +32,14 @@ act_by-requires-else-step-eq1 c = let a = c.args in
 
 pub returns-then-step-eq1 : goal.returns-then-step-eq1
 returns-then-step-eq1 c = let a = c.args in
-    let g = c.spacing_of-spacing in
+    let g = c.spacing-spacing in
     let x = c.act_by in
     let f = acted a.net g.result.step g.result.gap 1 g.ensures (sym c.if-step-eq1.true) a.bits.now a.b a.n in
     (f a.vals.now _ x.ensures.0, f a.trails.now _ x.ensures.1)
 
 pub returns-else-step-eq1 : goal.returns-else-step-eq1
 returns-else-step-eq1 c = let a = c.args in
-    let g = c.spacing_of-spacing in
+    let g = c.spacing-spacing in
     let x = c.act_by-else-step-eq1 in
     let f = acted a.net g.result.step g.result.gap g.result.step g.ensures refl a.bits.now a.b a.n in
     (f a.vals.now _ x.ensures.0, f a.trails.now _ x.ensures.1)

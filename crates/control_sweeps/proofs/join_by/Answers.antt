@@ -4,33 +4,15 @@ use native.Mathlib.Omega.{arith}
 use mathlib.Core.Path.{◌≡◌, refl}
 use Prim.Native.Nat.{◌+◌, ◌*◌, ◌/◌, ◌%◌}
 use lib.Dec.{eqb}
-use lib.ListN.{get_or, length-set}
+use lib.ListN.{get_or}
 use Rattle.steps.specs.Sweeps.{each}
 use Rattle.wirings.specs.Nets.{wiring_of, net_of, place_of}
-use Rattle.control_sweeps.proofs.Places.{each_step, still, ahead-below, here}
+use Rattle.control_sweeps.proofs.Places.{each_step, still, ahead-below}
 use Rattle.control_sweeps.proofs.join_by.Goals as goal
 
 pub loop-i-init : goal.loop-i-init
 unfolding each
-loop-i-init c = ((omega arith, (refl, refl)), (refl, refl))
-
-pub overflow_mul-p : goal.overflow_mul-p
-overflow_mul-p c = omega (arith, here c.requires.1 c.loop-i.i (omega arith))
-
-pub overflow_add-p : goal.overflow_add-p
-overflow_add-p c = omega (arith, here c.requires.1 c.loop-i.i (omega arith))
-
-pub offset_bounds-trails-p : goal.offset_bounds-trails-p
-offset_bounds-trails-p c = omega (arith, here c.requires.1 c.loop-i.i (omega arith))
-
-pub bounds-trails-p : goal.bounds-trails-p
-bounds-trails-p c = omega (arith, here c.requires.2 c.loop-i.i (omega arith))
-
-pub offset_bounds-vals-p : goal.offset_bounds-vals-p
-offset_bounds-vals-p c = omega (arith, here c.requires.1 c.loop-i.i (omega arith))
-
-pub bounds-vals-p : goal.bounds-vals-p
-bounds-vals-p c = omega (arith, here c.requires.1 c.loop-i.i (omega arith))
+loop-i-init c = (refl, refl)
 
 pub value_of-requires : goal.value_of-requires
 value_of-requires c = let l = c.loop-i in
@@ -38,47 +20,23 @@ value_of-requires c = let l = c.loop-i in
       c.requires.0,
       ahead-below (net_of a.t a.o a.m a.apart)
           (λ j v. (wiring_of a.t).enc a.k (v, eqb (get_or a.trails.now (a.o + j * a.apart) 0 % 2) 1)) l.vals a.vals.now
-          l.i c.requires.1.inside.apart l.invariant.1.0 c.requires.3 (omega arith),
+          l.i c.requires.1.inside.apart l.invariant.0 c.requires.3 (omega arith),
       omega arith,
     )
-
-pub offset_bounds-vals-p-in-loop-i : goal.offset_bounds-vals-p-in-loop-i
-offset_bounds-vals-p-in-loop-i c = omega (arith, here c.requires.1 c.loop-i.i (omega arith))
-
-pub bounds-vals-p-in-loop-i : goal.bounds-vals-p-in-loop-i
-bounds-vals-p-in-loop-i c = omega (arith, here c.requires.1 c.loop-i.i (omega arith))
-
-pub offset_bounds-trails-p-in-loop-i : goal.offset_bounds-trails-p-in-loop-i
-offset_bounds-trails-p-in-loop-i c = omega (arith, here c.requires.1 c.loop-i.i (omega arith))
-
-pub bounds-trails-p-in-loop-i : goal.bounds-trails-p-in-loop-i
-bounds-trails-p-in-loop-i c = omega (arith, here c.requires.2 c.loop-i.i (omega arith))
-
-pub overflow_add-i : goal.overflow_add-i
-overflow_add-i c = omega (arith, here c.requires.1 c.loop-i.i (omega arith))
 
 pub loop-i-preserved : goal.loop-i-preserved
 loop-i-preserved c = let l = c.loop-i in
     let a = c.args in
     let same = still (net_of a.t a.o a.m a.apart) (λ j t. t / 2) l.trails a.trails.now l.i
-    c.requires.1.inside.apart l.invariant.1.1 in (
-      (omega arith, (simp length-set l.invariant.0.1.0, simp length-set l.invariant.0.1.1)),
-      (
-        rw (c.value_of.ensures, same)
-            (each_step (place_of (net_of a.t a.o a.m a.apart))
-            (λ j v. (wiring_of a.t).enc a.k (v, eqb (get_or a.trails.now (a.o + j * a.apart) 0 % 2) 1)) l.vals a.vals.now
-            l.i l.invariant.1.0),
-        each_step (place_of (net_of a.t a.o a.m a.apart)) (λ j t. t / 2) l.trails a.trails.now l.i l.invariant.1.1,
-      ),
+    c.requires.1.inside.apart l.invariant.1 in (
+      rw (c.value_of.ensures, same)
+          (each_step (place_of (net_of a.t a.o a.m a.apart))
+          (λ j v. (wiring_of a.t).enc a.k (v, eqb (get_or a.trails.now (a.o + j * a.apart) 0 % 2) 1)) l.vals a.vals.now
+          l.i l.invariant.0),
+      each_step (place_of (net_of a.t a.o a.m a.apart)) (λ j t. t / 2) l.trails a.trails.now l.i l.invariant.1,
     )
-
-pub shape_of-vals : goal.shape_of-vals
-shape_of-vals c = c.loop-i.invariant.0.1.0
-
-pub shape_of-trails : goal.shape_of-trails
-shape_of-trails c = c.loop-i.invariant.0.1.1
 
 pub returns : goal.returns
 returns c = let l = c.loop-i in
     let e : l.i ≡ c.args.m = omega arith in
-    record { values_are = rw (← e) l.invariant.1.0; trails_are = rw (← e) l.invariant.1.1 }
+    record { values_are = rw (← e) l.invariant.0; trails_are = rw (← e) l.invariant.1 }
