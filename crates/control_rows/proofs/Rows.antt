@@ -7,7 +7,10 @@ use Prim.Native.Nat.{ℕ, zero, suc, ◌+◌, ◌-◌, ◌≤◌, ◌<◌}
 use native.Mathlib.Omega.{arith}
 use native.Mathlib.Decide.{ℕ_discrete, dec_lt}
 use lib.Dec.{ltb}
-use lib.ListN.{length, get_or, set}
+use lib.ListN.{length, get_or, set, take, replicate}
+use borrow.Rule.Slice.PartMut.{put_mid}
+use Rattle.std.proofs.Math.ListN.{get_or-append}
+use Rattle.std.proofs.lemmas.List.{get_or-append_right, get_or-replicate, get_or-take, length-take, length-replicate}
 use lib.Seq.{get_or-set_same, get_or-set_other}
 use borrow.Author.Tests.{lt-ltb, le-ltb, ne_eqb}
 use Rattle.steps.specs.Sweeps.{look, seek}
@@ -65,26 +68,20 @@ gather_more place i xs row l G = record { at = λ j h. go j h (ℕ_discrete j i)
     go j h (yes e) = rw e (get_or-set_same row i v 0 l)
     go j h (no e) = get_or-set_other row i j v 0 e ∙ G.at j (omega arith)
 
--- the m values stand, and after them the padding up to i
-pub record Filled (place : ℕ → ℕ) (m i : ℕ) (xs row : List ℕ) : Type 0 where
-  pub values : Gathered place m xs row
-  pub padding : (j : ℕ) → m ≤ j → j < i → get_or row j 0 ≡ 65535
-
-pub fill_none : (place : ℕ → ℕ) (m i : ℕ) (xs row : List ℕ) → i ≡ m → Gathered place i xs row → Filled place m i xs row
-fill_none place m i xs row e G = record { values = record { at = λ j h. G.at j (omega arith) }; padding = λ j l h. absurd (omega arith) }
-
-pub fill_more : (place : ℕ → ℕ) (m i : ℕ) (xs row : List ℕ) → m ≤ i → i < length row → Filled place m i xs row
-    → Filled place m (i + 1) xs (set row i 65535)
-fill_more place m i xs row u l F = record {
-  values = record { at = λ j h. get_or-set_other row i j 65535 0 (λ e. omega arith) ∙ F.values.at j h };
-  padding = λ j h k. go j h k (ℕ_discrete j i);
-}
-  where
-    go : (j : ℕ) → m ≤ j → j < i + 1 → Dec (j ≡ i) → get_or (set row i 65535) j 0 ≡ 65535
-    go j h k (yes e) = rw e (get_or-set_same row i 65535 0 l)
-    go j h k (no e) = get_or-set_other row i j 65535 0 e ∙ F.padding j h (omega arith)
-
-pub fill_all : (place : ℕ → ℕ) (m i : ℕ) (xs row : List ℕ) → i ≡ sixteens m → Filled place m i xs row
-    → Gathered place m xs row × Padded m row
+-- the m values stand, and after them the padding was written up to a whole sixteen
+pub padded : (place : ℕ → ℕ) (m n : ℕ) (xs row ys : List ℕ) → n ≡ sixteens m → n ≤ length row → Gathered place m xs row
+    → ys ≡ replicate (n - m) 65535 → Gathered place m xs (put_mid m (n - m) row ys) × Padded m (put_mid m (n - m) row ys)
 unfolding Padded
-fill_all place m i xs row e F = (F.values, λ j h k. F.padding j h (omega arith))
+padded place m n xs row ys e l G f = (record { at = λ i h. before i h ∙ G.at i h }, λ i h u. behind i h (omega arith))
+  where
+    front : length (take m row) ≡ m
+    front = omega (arith, length-take m row)
+
+    before : (i : ℕ) → i < m → get_or (put_mid m (n - m) row ys) i 0 ≡ get_or row i 0
+    before i h = get_or-append (take m row) _ 0 i (omega (arith, front)) ∙ get_or-take m row i 0 h
+
+    behind : (i : ℕ) → m ≤ i → i < n → get_or (put_mid m (n - m) row ys) i 0 ≡ 65535
+    behind i h u =
+        get_or-append_right (take m row) _ m i 0 front h
+        ∙ rw f (get_or-append (replicate (n - m) 65535) _ 0 (i - m) (omega (arith, length-replicate {A = ℕ} (n - m) 65535))
+        ∙ get_or-replicate (n - m) (i - m) 65535 0 (omega arith))

@@ -5,7 +5,16 @@
 
 ghost use Rattle.std.specs.Prelude.{◌≡◌, ℕ, ◌+◌, ◌*◌, ◌≤◌, ◌<◌, length};
 ghost use Rattle.steps.specs.Sweeps.{look, seek};
-ghost use Rattle.control_rows.specs.Rows.{Gathered, Padded};
+ghost use Rattle.control_rows.specs.Rows.{sixteens, Gathered, Padded};
+
+// How many places a row of m values takes: whole sixteens. No `next_multiple_of`: from this form the compiler knows that a sweep of
+// them has no remainder.
+pub fn sixteens(m: usize) -> usize
+    requires { m ≤ 1024 }
+    ensures { result ≡ sixteens m }
+{
+    (m + 15) / 16 * 16
+}
 
 // The m values whose places lie `apart` from each other, from o on, side by side; past them, up to a whole sixteen, a number
 // that is no value.
@@ -21,28 +30,14 @@ pub fn gather(row: &mut [u16; 1024], xs: &[u16], o: usize, apart: usize, m: usiz
     }
 }
 
-// The same with the row as a slice: the proof knows how long a slice is, and of an array behind a reference it does not.
-fn fill(row: &mut [u16], xs: &[u16], o: usize, apart: usize, m: usize)
-    requires { (m ≤ 1024) × (length row.old ≡ 1024) × ((i : ℕ) → i < m → o + i * apart < length xs.now) }
+fn fill(row: &mut [u16; 1024], xs: &[u16], o: usize, apart: usize, m: usize)
+    requires { (m ≤ 1024) × ((i : ℕ) → i < m → o + i * apart < length xs.now) }
     ensures { Gathered (λ i. o + i * apart) m xs.now row.new × Padded m row.new }
 {
-    let r = (m + 15) / 16 * 16;
-    let mut i = 0;
-    while i < m {
+    for i in 0..m {
         row[i] = xs[o + i * apart];
-        i += 1;
     }
-    while i < r {
-        row[i] = 65535;
-        i += 1;
-    }
-}
-
-// For a read of an array behind a reference: the proof knows that a call gives back 16 bits, and of such a read it does not.
-fn number(x: u16) -> u16
-    ensures { result ≡ x }
-{
-    x
+    row[m..sixteens(m)].fill(65535);
 }
 
 // The number at the hidden place p of the row's m. An imagined place is sought as 65,535, which no counter meets.
@@ -52,18 +47,16 @@ pub fn look_in(row: &[u16; 1024], m: usize, p: u16) -> u16
 {
     let past = select::mask(select::at_least(p, m as u16));
     let q = p | past;
-    let r = (m + 15) / 16 * 16;
+    let r = sixteens(m);
     // never so: it spares the compiled loop a way round it
     if r < 16 {
         return 0;
     }
     let mut g = 0u16;
     let mut c = 0u16;
-    let mut i = 0;
-    while i < r {
-        g = g | (number(row[i]) & select::mask((c == q) as u16));
+    for x in &row[..r] {
+        g |= x & select::mask(u16::from(c == q));
         c += 1;
-        i += 1;
     }
     g | (p & past)
 }
@@ -73,18 +66,16 @@ pub fn seek_in(row: &[u16; 1024], m: usize, a: u16) -> u16
     requires { (0 < m) × (m ≤ 1024) × (a < 32768) × Padded m row.now }
     ensures { result ≡ seek (λ i. i) m row.now a }
 {
-    let r = (m + 15) / 16 * 16;
+    let r = sixteens(m);
     // never so, as above
     if r < 16 {
         return 0;
     }
     let mut best = 0u16;
     let mut c = 1u16;
-    let mut i = 0;
-    while i < r {
-        best = select::most(c & select::mask((row[i] == a) as u16), best);
+    for x in &row[..r] {
+        best = select::most(c & select::mask(u16::from(*x == a)), best);
         c += 1;
-        i += 1;
     }
     let found = select::at_least(best, 1);
     select::pick(found, best - found, a)

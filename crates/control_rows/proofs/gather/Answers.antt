@@ -1,6 +1,5 @@
 -- Neighbours lie 1 apart.
 -- Assumes nothing.
-use borrow.Author.Rules.{rules}
 use mathlib.Core.Path.{subst, sym}
 use Prim.Native.Nat.{◌+◌, ◌*◌, ◌<◌}
 use lib.ListN.{length}
@@ -9,7 +8,7 @@ use Rattle.control_rows.proofs.gather.Goals as goal
 
 pub fill-requires : goal.fill-requires
 fill-requires c = let a = c.args in
-    (c.requires.0, search rules, λ i l. subst (λ x. a.o + i * x < length a.xs.now) c.if-apart-eq1.true (c.requires.1 i l))
+    (c.requires.0, λ i l. subst (λ x. a.o + i * x < length a.xs.now) c.if-apart-eq1.true (c.requires.1 i l))
 
 pub returns-then-apart-eq1 : goal.returns-then-apart-eq1
 returns-then-apart-eq1 c = let a = c.args in
