@@ -158,7 +158,7 @@ module _ {k p bit : ℕ} {before after : List ℕ} {low : ℕ} (S : Settled k p 
   marks_here l = rw (here l, le-ltb (p + 1024 + 2048 * bit) 1024 (omega arith))
 
   pub settled_numbered : Numbered k after
-  settled_numbered = rw S.pairs (numbered_after k p bit before few room b N)
+  settled_numbered = rw S.pairs (numbered_after k p bit before few (omega arith) b N)
 
   pub settled_marks : (marks : List ℕ) → marks_in k after marks ≡ store (λ i. i) k p 1 (marks_in k before marks)
   unfolding marks_in

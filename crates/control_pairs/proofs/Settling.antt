@@ -2,21 +2,25 @@
 -- Assumes nothing.
 use mathlib.Core.Path.{◌≡◌, refl, sym, ap, ◌∙◌}
 use mathlib.Core.Bool.{Bool, true, false, not, cond}
-use mathlib.Core.List.{List}
+use mathlib.Core.List.{List, ◌++◌}
 use Prim.Native.Nat.{ℕ, ◌+◌, ◌*◌, ◌/◌, ◌%◌, ◌≤◌, ◌<◌}
 use native.Mathlib.Numerals.{add-one}
 use native.Mathlib.Omega.{arith}
 use native.Mathlib.Decide.{ℕ_discrete, dec_lt}
 use mir.Val.{bool_byte}
 use lib.Dec.{ltb, eqb}
-use lib.ListN.{length, get_or, set}
+use lib.ListN.{length, get_or, set, take, drop, length-set}
+use Rattle.std.proofs.Math.ListN.{get_or-append}
+use Rattle.std.proofs.lemmas.List.{get_or-take, length-take, set-append_left, take-append-drop}
 use lib.Seq.{get_or-set_same, get_or-set_other, set-get_or}
 use borrow.Author.Tests.{lt-ltb, le-ltb, eq-eqb, ne_eqb}
+use Rattle.answers.specs.Questions.{first_bad}
+use Rattle.permutation.proofs.Sweeps.{same_bad}
 use Rattle.steps.specs.Sweeps.{store, each}
 use Rattle.steps.specs.Steps.{digit}
 use Rattle.select.proofs.Numbers.{digit_is, byte_is}
 use Rattle.control_rows.specs.Rows.{sixteens}
-use Rattle.control_pairs.specs.Pairs.{mark_in, bit_in, bits_in, Numbered}
+use Rattle.control_pairs.specs.Pairs.{mark_in, bit_in, bits_in, Numbered, Settled}
 
 pub unmarked_more : (pairs : List ℕ) (c i : ℕ) → c ≡ i → i < length pairs → ((j : ℕ) → j < i → get_or pairs j 0 ≡ j)
     → (j : ℕ) → j < i + 1 → get_or (set pairs i c) j 0 ≡ j
@@ -64,7 +68,7 @@ stored_at n p a i x₀ l h = go (ℕ_discrete i p) (dec_lt p n)
 
 -- ---- pair p of k settled
 
-module _ (k p bit : ℕ) (x₀ : List ℕ) (few : k ≤ 512) (room : 512 ≤ length x₀) (b : bit < 2) (N : Numbered k x₀) where
+module _ (k p bit : ℕ) (x₀ : List ℕ) (few : k ≤ 512) (room : sixteens k ≤ length x₀) (b : bit < 2) (N : Numbered k x₀) where
   abbrev pub final : List ℕ
   final = store (λ j. j) (sixteens k) p (p + 1024 + 2048 * bit) x₀
 
@@ -96,6 +100,37 @@ module _ (k p bit : ℕ) (x₀ : List ℕ) (few : k ≤ 512) (room : 512 ≤ len
       settled-pick xs c i y ec e f
       ∙ ap (cond (eqb i p) v) (ahead xs x₀ i p v e)
       ∙ sym (stored_at (sixteens k) p v i x₀ (omega arith) h)
+
+-- ---- the sweep changes the front of the table, whole sixteens of pairs
+
+pub front_numbered : (k n : ℕ) (xs : List ℕ) → n ≡ sixteens k → Numbered k xs → Numbered k (take n xs)
+unfolding Numbered
+front_numbered k n xs e N i h = rw (get_or-take n xs i 0 (omega arith)) (N i h)
+
+pub front_settled : (k p bit n low : ℕ) (xs ys : List ℕ) → n ≡ sixteens k → n ≤ length xs
+    → ys ≡ store (λ j. j) n p (p + 1024 + 2048 * bit) (take n xs) → low ≡ first_bad (mark_in ys) k → Settled k p bit xs (ys ++ drop n xs) low
+unfolding store
+front_settled k p bit n low xs ys e l f g = record {
+  pairs = rw (← e) (whole (dec_lt p n));
+  lowest = g ∙ same_bad (mark_in ys) (mark_in (ys ++ drop n xs)) k (λ i h. rw (get_or-append ys (drop n xs) 0 i (omega (arith, long))));
+}
+  where
+    v : ℕ
+    v = p + 1024 + 2048 * bit
+
+    front : length (take n xs) ≡ n
+    front = omega (arith, length-take n xs)
+
+    long : length ys ≡ n
+    long = elim (dec_lt p n) [
+      | yes h ↦ rw (f, lt-ltb p n h) (omega (arith, front, length-set (take n xs) p v))
+      | no h ↦ rw (f, le-ltb p n (omega arith)) front
+    ]
+
+    whole : Dec (p < n) → ys ++ drop n xs ≡ cond (ltb p n) (set xs p v) xs
+    whole (yes h) =
+        rw (f, lt-ltb p n h, ← set-append_left (take n xs) (drop n xs) p v (omega (arith, front)), take-append-drop n xs)
+    whole (no h) = rw (f, le-ltb p n (omega arith), take-append-drop n xs)
 
 -- ---- the bits given, one more at a time
 

@@ -1,17 +1,13 @@
--- The first i pairs are as they will stand, and the lowest unmarked of them is known; c counts with i.
+-- The pairs so far are as they will stand, and the lowest unmarked of them is known; c counts with them.
 -- Assumes nothing.
 use mathlib.Core.Path.{◌≡◌}
-use Prim.Native.Nat.{◌+◌, ◌-◌, ◌*◌, ◌≤◌}
-use lib.ListN.{length}
+use Prim.Native.Nat.{◌+◌, ◌*◌, ◌≤◌}
 use Rattle.steps.specs.Sweeps.{store}
 use Rattle.control_rows.specs.Rows.{sixteens}
 use Rattle.control_pairs.proofs.Lowest.{low_of, good_in}
 use Rattle.control_pairs.proofs.settle.Given as goal
 
-abbrev pub invariant-loop-i : goal.invariant-loop-i
-invariant-loop-i l =
-    ((l.i ≤ l.r) × (length l.pairs ≡ length l.initial.pairs) × (l.c ≡ l.i) × (l.low ≤ l.k)) × (l.pairs ≡ store (λ j. j) l.i l.p (l.p + 1024 + 2048 * l.bit) l.initial.pairs)
-    × (l.low ≡ low_of (good_in l.k (store (λ j. j) (sixteens l.k) l.p (l.p + 1024 + 2048 * l.bit) l.initial.pairs)) l.k l.i)
-
-abbrev pub decreases-loop-i : goal.decreases-loop-i
-decreases-loop-i l = l.r - l.i
+abbrev pub invariant-loop-pair : goal.invariant-loop-pair
+invariant-loop-pair l = ((l.c ≡ l.pair-index) × (l.low ≤ l.k))
+    × (l.pair-items ≡ store (λ j. j) l.pair-index l.p (l.p + 1024 + 2048 * l.bit) l.initial.pair-items)
+    × (l.low ≡ low_of (good_in l.k (store (λ j. j) (sixteens l.k) l.p (l.p + 1024 + 2048 * l.bit) l.initial.pair-items)) l.k l.pair-index)
