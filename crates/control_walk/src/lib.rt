@@ -5,8 +5,8 @@
 ghost use Rattle.std.specs.Prelude.{◌≡◌, ◌+◌, ◌<◌};
 
 // The hidden numbers of the walk along the rings, with 1 in `any` where a pair of the network is marked; how many entries are
-// written, and the position of the next bit.
-#[derive(Clone, Copy)]
+// written, and the position of the next bit. By default nothing is done: the walk as it begins.
+#[derive(Clone, Copy, Default)]
 pub struct Walk {
     pub f: u16,
     pub c: u16,
@@ -17,33 +17,23 @@ pub struct Walk {
     pub b: usize,
 }
 
-// A step was done that passed n bits.
-pub fn passed(w: Walk, n: usize) -> Walk
-    requires { (w.e + 1 < 18446744073709551616) × (w.b + n < 18446744073709551616) }
-    ensures { result ≡ record { f = w.f; c = w.c; g = w.g; s = w.s; any = w.any; e = w.e + 1; b = w.b + n } }
-{
-    Walk {
-        f: w.f,
-        c: w.c,
-        g: w.g,
-        s: w.s,
-        any: w.any,
-        e: w.e + 1,
-        b: w.b + n,
+impl Walk {
+    // A step was done that passed n bits.
+    pub fn passed(self, n: usize) -> Walk
+        requires { (self.e + 1 < 18446744073709551616) × (self.b + n < 18446744073709551616) }
+        ensures { result ≡ record { f = self.f; c = self.c; g = self.g; s = self.s; any = self.any; e = self.e + 1; b = self.b + n } }
+    {
+        Walk {
+            e: self.e + 1,
+            b: self.b + n,
+            ..self
+        }
     }
-}
 
-// No pair of the network is marked.
-pub fn unmarked(w: Walk) -> Walk
-    ensures { result ≡ record { f = w.f; c = w.c; g = w.g; s = w.s; any = 0; e = w.e; b = w.b } }
-{
-    Walk {
-        f: w.f,
-        c: w.c,
-        g: w.g,
-        s: w.s,
-        any: 0,
-        e: w.e,
-        b: w.b,
+    // No pair of the network is marked.
+    pub fn unmarked(self) -> Walk
+        ensures { result ≡ record { f = self.f; c = self.c; g = self.g; s = self.s; any = 0; e = self.e; b = self.b } }
+    {
+        Walk { any: 0, ..self }
     }
 }
