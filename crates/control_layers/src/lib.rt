@@ -15,16 +15,20 @@ ghost use Rattle.control_sweeps.specs.Tables.{Below, Within, Covers};
 ghost use Rattle.control_walk.specs.Walks.{state, subnetwork_of, Went};
 ghost use Rattle.control_layers.specs.Switches.{Switched};
 
+use control_walk::Walk;
+use entry_log::Kind;
+use wirings::Net;
+
 // 4. The input switches act on the table and all marks are cleared: no table holds them from here on, and each network's rounds
 // begin with a table of pairs of which none is marked.
 pub fn step4(
     vals: &mut [u16],
     trails: &mut [u16],
     bits: &[u8],
-    net: wirings::Net,
+    net: Net,
     log: &mut [u16],
-    w: control_walk::Walk,
-) -> control_walk::Walk
+    w: Walk,
+) -> Walk
     requires { (2 ≤ net.size) × Covers net vals.old × Covers net trails.old
         × (w.b + (up net.size - 1) ≤ length bits.now) × (entry_words * (w.e + 1) ≤ length log.old) × Below 2 bits.now
         × (w.b < 65536) }
@@ -37,8 +41,8 @@ pub fn step4(
     let m = net.size;
     let k = (m + 1) / 2;
     control_sweeps::act_on(vals, trails, net, k - 1, bits, w.b);
-    entry_log::write_entry(log, w.e, 4, net.start, m, w.b);
-    control_walk::passed(w, k - 1)
+    entry_log::write_entry(log, w.e, Kind::InputSwitches, net.start, m, w.b);
+    w.passed(k - 1)
 }
 
 // 5. Each value keeps its pair and its trail gains its side (in the paper's wiring: each of k or more loses k and gains 1). The walk has
@@ -46,11 +50,11 @@ pub fn step4(
 pub fn step5(
     vals: &mut [u16],
     trails: &mut [u16],
-    net: wirings::Net,
+    net: Net,
     first: usize,
     log: &mut [u16],
-    w: control_walk::Walk,
-) -> control_walk::Walk
+    w: Walk,
+) -> Walk
     requires { (2 ≤ net.size) × Covers net vals.old × Covers net trails.old
         × (w.b < 18446744073709551616) × (entry_words * (w.e + 1) ≤ length log.old) × Within (place_of net) net.size 32768 vals.old
         × Within (place_of net) net.size 32768 trails.old × (first < 65536) }
@@ -63,8 +67,8 @@ pub fn step5(
     let m = net.size;
     let k = ((m + 1) / 2) as u16;
     control_sweeps::split_values(vals, trails, net, k);
-    entry_log::write_entry(log, w.e, 5, net.start, m, first);
-    control_walk::passed(w, 0)
+    entry_log::write_entry(log, w.e, Kind::Split, net.start, m, first);
+    w.passed(0)
 }
 
 // Step 6, its first part: output bit i is the last trail bit at pair i's first place, and the switches act.
@@ -73,7 +77,7 @@ fn output_switches(
     trails: &mut [u16],
     bits: &mut [u8],
     b: usize,
-    net: wirings::Net,
+    net: Net,
 )
     requires { (2 ≤ net.size) × Covers net vals.old × Covers net trails.old
         × (b + (net.size - up net.size) ≤ length bits.old) × Below 2 bits.old }
@@ -92,11 +96,11 @@ pub fn step6(
     vals: &mut [u16],
     trails: &mut [u16],
     bits: &mut [u8],
-    net: wirings::Net,
+    net: Net,
     first: usize,
     log: &mut [u16],
-    w: control_walk::Walk,
-) -> control_walk::Walk
+    w: Walk,
+) -> Walk
     requires { (2 ≤ net.size) × Covers net vals.old × Covers net trails.old
         × (w.b + (net.size - up net.size) ≤ length bits.old) × (entry_words * (w.e + 1) ≤ length log.old) × Below 2 bits.old
         × Within (place_of net) net.size 32768 vals.old × (first < 65536) }
@@ -110,6 +114,6 @@ pub fn step6(
     let k = (m + 1) / 2;
     output_switches(vals, trails, bits, w.b, net);
     control_sweeps::join_values(vals, trails, net, k as u16);
-    entry_log::write_entry(log, w.e, 6, net.start, m, first);
-    control_walk::passed(w, m - k)
+    entry_log::write_entry(log, w.e, Kind::OutputSwitches, net.start, m, first);
+    w.passed(m - k)
 }

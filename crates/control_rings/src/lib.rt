@@ -16,13 +16,17 @@ ghost use Rattle.control_pairs.specs.Pairs.{marks_in, bits_in};
 ghost use Rattle.control_walk.specs.Walks.{state, lying, Went};
 ghost use Rattle.control_rings.specs.Turns.{turned, Small, Held};
 
+use control_walk::Walk;
+use entry_log::Kind;
+use wirings::{Net, Topology};
+
 // 1. If no pair is marked, f = c = the last pair's first place (in the paper's wiring k-1). Then g is the value at f.
 pub fn step1(
     row: &[u16; 1024],
-    net: wirings::Net,
+    net: Net,
     log: &mut [u16],
-    w: control_walk::Walk,
-) -> control_walk::Walk
+    w: Walk,
+) -> Walk
     requires { (2 ≤ net.size) × (net.size ≤ 1024) × (net.start ≤ 1024) × (entry_words * (w.e + 1) ≤ length log.old)
         × Small net.size row.now × (w.f < 32768) × (w.c < 32768) × (w.any < 2) × (w.b < 65536) }
     ensures { Went (entry 1 net.start net.size w.b ∷ []) 0 w result log.old log.new × (result.any ≡ w.any)
@@ -37,26 +41,23 @@ pub fn step1(
     let f = select::pick(w.any, w.f, last);
     let c = select::pick(w.any, w.c, last);
     let g = control_rows::look_in(row, m, f);
-    let e = w.e;
-    entry_log::write_entry(log, e, 1, net.start, m, w.b);
-    control_walk::Walk {
+    entry_log::write_entry(log, w.e, Kind::Value, net.start, m, w.b);
+    Walk {
         f,
         c,
         g,
-        s: w.s,
-        any: w.any,
-        e: e + 1,
-        b: w.b,
+        e: w.e + 1,
+        ..w
     }
 }
 
 // 2. s is the place that holds g's associate.
 pub fn step2(
     row: &[u16; 1024],
-    net: wirings::Net,
+    net: Net,
     log: &mut [u16],
-    w: control_walk::Walk,
-) -> control_walk::Walk
+    w: Walk,
+) -> Walk
     requires { (2 ≤ net.size) × (net.size ≤ 1024) × (net.start ≤ 1024) × (entry_words * (w.e + 1) ≤ length log.old)
         × Padded net.size row.now × (w.g < 32768) × (w.b < 65536) }
     ensures { Went (entry 2 net.start net.size w.b ∷ []) 0 w result log.old log.new × (result.any ≡ w.any)
@@ -68,41 +69,34 @@ pub fn step2(
     let m = net.size;
     let k = ((m + 1) / 2) as u16;
     let s = control_rows::seek_in(row, m, control_sides::other_of(t, k, w.g));
-    let e = w.e;
-    entry_log::write_entry(log, e, 2, net.start, m, w.b);
-    control_walk::Walk {
-        f: w.f,
-        c: w.c,
-        g: w.g,
+    entry_log::write_entry(log, w.e, Kind::Associate, net.start, m, w.b);
+    Walk {
         s,
-        any: w.any,
-        e: e + 1,
-        b: w.b,
+        e: w.e + 1,
+        ..w
     }
 }
 
 // f and c after a round that marked s's pair; low is the lowest unmarked pair, or k.
 fn turn(
-    t: wirings::Topology,
+    t: Topology,
     k: u16,
     low: u16,
     any: u16,
-    w: control_walk::Walk,
-) -> control_walk::Walk
+    w: Walk,
+) -> Walk
     requires { (k ≤ 1024) × (low ≤ 1024) × (w.s < 32768) × (w.c < 32768) × (w.e + 1 < 18446744073709551616) }
     ensures { result ≡ turned (wiring_of t) k low any w }
 {
     let f = control_sides::other_of(t, k, w.s);
     let again = select::equal(f, w.c) * select::below(low, k);
     let next = control_sides::first_of(t, k, low);
-    control_walk::Walk {
+    Walk {
         f: select::pick(again, next, f),
         c: select::pick(again, next, w.c),
-        g: w.g,
-        s: w.s,
         any,
         e: w.e + 1,
-        b: w.b,
+        ..w
     }
 }
 
@@ -110,12 +104,12 @@ fn turn(
 // pair is marked and f is the other place of it. If f = c and a pair is unmarked, f = c = the first place of the lowest unmarked
 // pair. A pair is marked then if one was, or if s's pair is one of the network's.
 pub fn step3(
-    pairs: &mut [u16],
-    net: wirings::Net,
+    pairs: &mut [u16; 512],
+    net: Net,
     log: &mut [u16],
-    w: control_walk::Walk,
-) -> control_walk::Walk
-    requires { (2 ≤ net.size) × (net.size ≤ 1024) × (net.start ≤ 1024) × (512 ≤ length pairs.old)
+    w: Walk,
+) -> Walk
+    requires { (2 ≤ net.size) × (net.size ≤ 1024) × (net.start ≤ 1024)
         × (entry_words * (w.e + 1) ≤ length log.old)
         × Held (up net.size) pairs.old w × (w.s < 32768) × (w.b < 65536) }
     ensures { Went (entry 3 net.start net.size w.b ∷ []) 0 w result log.old log.new
@@ -133,6 +127,6 @@ pub fn step3(
     let bit = 1 - control_sides::side_of(t, few, w.s);
     let low = control_pairs::settle(pairs, k, pair, bit);
     let any = w.any | select::below(pair, few);
-    entry_log::write_entry(log, w.e, 3, net.start, m, w.b);
+    entry_log::write_entry(log, w.e, Kind::Settle, net.start, m, w.b);
     turn(t, few, low, any, w)
 }
