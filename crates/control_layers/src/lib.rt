@@ -72,13 +72,7 @@ pub fn step5(
 }
 
 // Step 6, its first part: output bit i is the last trail bit at pair i's first place, and the switches act.
-fn output_switches(
-    vals: &mut [u16],
-    trails: &mut [u16],
-    bits: &mut [u8],
-    b: usize,
-    net: Net,
-)
+fn output_switches(vals: &mut [u16], trails: &mut [u16], bits: &mut [u8], b: usize, net: Net)
     requires { (2 ≤ net.size) × Covers net vals.old × Covers net trails.old
         × (b + (net.size - up net.size) ≤ length bits.old) × Below 2 bits.old }
     ensures { Switched net b vals.old trails.old bits.old vals.new

@@ -36,12 +36,11 @@ use Rattle.control_network.proofs.Trails.{unlike, halfway, half_fits}
 use Rattle.control_network.proofs.Entries.{went_then, went_as, W_parts, entries_split, net_split}
 
 -- a part with k pairs was done: its entries, its n bits, and what it made of the state, where none of j pairs is marked
-pub record Done (es : List Entry) (n k : ℕ) (F : State → State) (w r : Walk) (vs ts ps bs l vs' ts' ps' bs' l' : List ℕ) : Type 0 where
+pub record Done (es : List Entry) (n k : ℕ) (F : State → State) (w r : Walk) (vs ts bs l vs' ts' bs' l' : List ℕ) : Type 0 where
   pub went : Went es n w r l l'
   pub is : (j : ℕ) → k ≤ j → unmarked j vs' ts' bs' r ≡ F (unmarked j vs ts bs w)
   pub values_kept : length vs' ≡ length vs
   pub trails_kept : length ts' ≡ length ts
-  pub pairs_kept : length ps' ≡ length ps
   pub bits_kept : length bs' ≡ length bs
   pub log_kept : length l' ≡ length l
 
@@ -50,24 +49,22 @@ abbrev pub entering : Net → ℕ → State → State
 entering net b s = step5 (wiring_of net.topology) (subnetwork_of net b) (input_steps (wiring_of net.topology) (subnetwork_of net b) s)
 
 -- they were done; and a network was
-abbrev pub Entered : Net → Walk → Walk → List ℕ → List ℕ → List ℕ → List ℕ → List ℕ → List ℕ → List ℕ → List ℕ → List ℕ → List ℕ → Type 0
-Entered net w r vs ts ps bs l vs' ts' ps' bs' l' =
+abbrev pub Entered : Net → Walk → Walk → List ℕ → List ℕ → List ℕ → List ℕ → List ℕ → List ℕ → List ℕ → List ℕ → Type 0
+Entered net w r vs ts bs l vs' ts' bs' l' =
     Done (input_entries net.start net.size w.b ++ (entry 5 net.start net.size w.b ∷ [])) (up net.size - 1)
     (up net.size)
     (entering net w.b) w r
-    vs ts ps bs l vs' ts' ps' bs' l'
+    vs ts bs l vs' ts' bs' l'
 
-abbrev pub Set : Topology → ℕ → (ℕ → ℕ) → Walk → Walk → List ℕ → List ℕ → List ℕ → List ℕ → List ℕ → List ℕ → List ℕ → List ℕ → List ℕ →
-    List ℕ → Type 0
-Set t n place w r vs ts ps bs l vs' ts' ps' bs' l' =
-    Done (entries_of (wiring_of t) (network n) place w.b) (W n) (up n) (set_net (wiring_of t) (network n) place w.b) w r vs ts ps bs l
-    vs' ts'
-    ps' bs' l'
+abbrev pub Set : Topology → ℕ → (ℕ → ℕ) → Walk → Walk → List ℕ → List ℕ → List ℕ → List ℕ → List ℕ → List ℕ → List ℕ → List ℕ → Type 0
+Set t n place w r vs ts bs l vs' ts' bs' l' =
+    Done (entries_of (wiring_of t) (network n) place w.b) (W n) (up n) (set_net (wiring_of t) (network n) place w.b) w r vs ts bs l
+    vs' ts' bs' l'
 
-abbrev pub Halved : Net → Walk → Walk → List ℕ → List ℕ → List ℕ → List ℕ → List ℕ → List ℕ → List ℕ → List ℕ → List ℕ → List ℕ → Type 0
-Halved half w r vs ts ps bs l vs' ts' ps' bs' l' = Set half.topology half.size (place_of half) w r vs ts ps bs l vs' ts' ps' bs' l'
+abbrev pub Halved : Net → Walk → Walk → List ℕ → List ℕ → List ℕ → List ℕ → List ℕ → List ℕ → List ℕ → List ℕ → Type 0
+Halved half w r vs ts bs l vs' ts' bs' l' = Set half.topology half.size (place_of half) w r vs ts bs l vs' ts' bs' l'
 
-module _ (net : Net) (w : Walk) (vs ts ps bs l : List ℕ) (two : 2 ≤ net.size) (R : Room net w vs ts ps bs l) where
+module _ (net : Net) (w : Walk) (vs ts bs l : List ℕ) (two : 2 ≤ net.size) (R : Room net w vs ts bs l) where
   abbrev m : ℕ
   m = net.size
 
@@ -103,17 +100,16 @@ module _ (net : Net) (w : Walk) (vs ts ps bs l : List ℕ) (two : 2 ≤ net.size
   module _ (T : Tidy (unmarked 512 vs ts bs w)) (S : Ordered (subnetwork_of net w.b) (unmarked 512 vs ts bs w))
       (L : Lengthens (place_of net) m ts)
       {x : Walk}
-      {vs₁ ts₁ ps₁ bs₁ l₁ : List ℕ}
-      (D : Entered net w x vs ts ps bs l vs₁ ts₁ ps₁ bs₁ l₁)
+      {vs₁ ts₁ bs₁ l₁ : List ℕ}
+      (D : Entered net w x vs ts bs l vs₁ ts₁ bs₁ l₁)
       {top : Net}
       (A : IsHalf net false top) where
-    pub room_top : Room top x vs₁ ts₁ ps₁ bs₁ l₁
+    pub room_top : Room top x vs₁ ts₁ bs₁ l₁
     room_top =
         let n : top.size ≡ up m = A.size in
         record {
           values_room = covers_half vs₁ A D.values_kept R.values_room;
           trails_room = covers_half ts₁ A D.trails_kept R.trails_room;
-          pairs_room = omega (arith, R.pairs_room, D.pairs_kept);
           bits_room = rw n (omega (arith, R.bits_room, D.bits_kept, D.went.bit, wparts));
           few = rw n (omega (arith, R.few, D.went.bit, wparts));
           log_room = rw n (omega (arith, R.log_room, D.log_kept, D.went.count, front_length, eparts));
@@ -176,20 +172,19 @@ module _ (net : Net) (w : Walk) (vs ts ps bs l : List ℕ) (two : 2 ≤ net.size
             (halfway₁ (side_of net (i, false)) (real wiring law m false i h))
 
     module _ {y : Walk}
-        {vs₂ ts₂ ps₂ bs₂ l₂ : List ℕ}
-        (D₂ : Set net.topology (up m) (half false) x y vs₁ ts₁ ps₁ bs₁ l₁ vs₂ ts₂ ps₂ bs₂ l₂)
+        {vs₂ ts₂ bs₂ l₂ : List ℕ}
+        (D₂ : Set net.topology (up m) (half false) x y vs₁ ts₁ bs₁ l₁ vs₂ ts₂ bs₂ l₂)
         {bottom : Net}
         (B : IsHalf net true bottom) where
       count₂ : y.e ≡ x.e + E (up m)
       count₂ = omega (arith, D₂.went.count, length-entries wiring (sized (up m)) (half false) x.b)
 
-      pub room_bottom : Room bottom y vs₂ ts₂ ps₂ bs₂ l₂
+      pub room_bottom : Room bottom y vs₂ ts₂ bs₂ l₂
       room_bottom =
           let n : bottom.size ≡ down m = B.size in
           record {
             values_room = covers_half vs₂ B (D₂.values_kept ∙ D.values_kept) R.values_room;
             trails_room = covers_half ts₂ B (D₂.trails_kept ∙ D.trails_kept) R.trails_room;
-            pairs_room = omega (arith, R.pairs_room, D.pairs_kept, D₂.pairs_kept);
             bits_room = rw n (omega (arith, R.bits_room, D.bits_kept, D₂.bits_kept, D.went.bit, D₂.went.bit, wparts));
             few = rw n (omega (arith, R.few, D.went.bit, D₂.went.bit, wparts));
             log_room = rw n (omega (arith, R.log_room, D.log_kept, D₂.log_kept, D.went.count, count₂, front_length, eparts));
@@ -250,8 +245,8 @@ module _ (net : Net) (w : Walk) (vs ts ps bs l : List ℕ) (two : 2 ≤ net.size
               (halfway₁ (side_of net (i, true)) (real wiring law m true i h)))
 
       module _ {z : Walk}
-          {vs₃ ts₃ ps₃ bs₃ l₃ : List ℕ}
-          (D₃ : Set net.topology (down m) (half true) y z vs₂ ts₂ ps₂ bs₂ l₂ vs₃ ts₃ ps₃ bs₃ l₃) where
+          {vs₃ ts₃ bs₃ l₃ : List ℕ}
+          (D₃ : Set net.topology (down m) (half true) y z vs₂ ts₂ bs₂ l₂ vs₃ ts₃ bs₃ l₃) where
         count₃ : z.e ≡ y.e + E (down m)
         count₃ = omega (arith, D₃.went.count, length-entries wiring (sized (down m)) (half true) y.b)
 

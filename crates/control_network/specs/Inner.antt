@@ -14,10 +14,9 @@ abbrev pub unmarked : ℕ → List ℕ → List ℕ → List ℕ → Walk → St
 unmarked j values trails bits w = state values trails (replicate j 0) bits w
 
 -- the tables, the bits and the log have room for the network
-pub record Room (net : Net) (w : Walk) (values trails pairs bits log : List ℕ) : Type 0 where
+pub record Room (net : Net) (w : Walk) (values trails bits log : List ℕ) : Type 0 where
   pub values_room : Covers net values
   pub trails_room : Covers net trails
-  pub pairs_room : 512 ≤ length pairs
   pub bits_room : w.b + W net.size ≤ length bits
   pub few : w.b + W net.size ≤ 9217
   pub log_room : entry_words * (w.e + E net.size) ≤ length log

@@ -1,6 +1,6 @@
 // The setter's steps on hidden tables in their sequence, by recursion on the halves. Hidden: the tables, f, c, g, s, any and the
-// bits. No branch and no index below depends on one of these. `row` and `pairs` are lent for a network's rounds alone: what they hold
-// before and after does not matter. Public for the crate `setter`, whose callers have asked the questions of `set`: so
+// bits. No branch and no index below depends on one of these. `rings` is lent for a network's rounds alone: what it holds before
+// and after does not matter. Public for the crate `setter`, whose callers have asked the questions of `set`: so
 // `set_network` may `require` sizes, and that its places hold an order.
 #![tactic(auto)]
 
@@ -20,58 +20,48 @@ ghost use Rattle.control_walk.specs.Walks.{state, lying, subnetwork_of, Went};
 ghost use Rattle.control_rings.specs.Turns.{Small, Held};
 ghost use Rattle.control_network.specs.Inner.{Room, Tidy, Lengthens, unmarked};
 
+use control_rings::Rings;
+use control_walk::Walk;
+use wirings::Net;
+
 // Steps 1, 2, 3.
-fn round(
-    row: &[u16; 1024],
-    pairs: &mut [u16],
-    net: wirings::Net,
-    log: &mut [u16],
-    w: control_walk::Walk,
-) -> control_walk::Walk
-    requires { (2 ≤ net.size) × (net.size ≤ 1024) × (net.start ≤ 1024) × (512 ≤ length pairs.old)
+fn round(rings: &mut Rings, net: Net, log: &mut [u16], w: Walk) -> Walk
+    requires { (2 ≤ net.size) × (net.size ≤ 1024) × (net.start ≤ 1024)
         × (entry_words * (w.e + 3) ≤ length log.old)
-        × Small net.size row.now × Padded net.size row.now × Held (up net.size) pairs.old w
+        × Small net.size rings.old.row × Padded net.size rings.old.row × Held (up net.size) rings.old.pairs w
         × (w.b < 65536) }
     ensures { Went (entry 1 net.start net.size w.b ∷ entry 2 net.start net.size w.b
         ∷ entry 3 net.start net.size w.b ∷ []) 0 w result log.old log.new
-        × Held (up net.size) pairs.new result × ((place : ℕ → ℕ) (vs ts ms bs : List ℕ) (bit : ℕ)
-        → Gathered place net.size vs row.now → up net.size ≤ length ms
-        → state vs ts (marks_in (up net.size) pairs.new ms) (bits_in bit (up net.size - 1) pairs.new bs) result
+        × Held (up net.size) rings.new.pairs result × (rings.new.row ≡ rings.old.row) × ((place : ℕ → ℕ) (vs ts ms bs : List ℕ) (bit : ℕ)
+        → Gathered place net.size vs rings.old.row → up net.size ≤ length ms
+        → state vs ts (marks_in (up net.size) rings.new.pairs ms) (bits_in bit (up net.size - 1) rings.new.pairs bs) result
         ≡ rounds_of (wiring_of net.topology) (lying place net.size bit) 1
-        (state vs ts (marks_in (up net.size) pairs.old ms)
-        (bits_in bit (up net.size - 1) pairs.old bs) w)) }
+        (state vs ts (marks_in (up net.size) rings.old.pairs ms)
+        (bits_in bit (up net.size - 1) rings.old.pairs bs) w)) }
 {
-    let x = control_rings::step1(row, net, log, w);
-    let y = control_rings::step2(row, net, log, x);
-    control_rings::step3(pairs, net, log, y)
+    let x = rings.step1(net, log, w);
+    let y = rings.step2(net, log, x);
+    rings.step3(net, log, y)
 }
 
 // The k rounds of a network.
-fn rounds(
-    row: &[u16; 1024],
-    pairs: &mut [u16],
-    net: wirings::Net,
-    log: &mut [u16],
-    w: control_walk::Walk,
-) -> control_walk::Walk
-    requires { (2 ≤ net.size) × (net.size ≤ 1024) × (net.start ≤ 1024) × (512 ≤ length pairs.old)
+fn rounds(rings: &mut Rings, net: Net, log: &mut [u16], w: Walk) -> Walk
+    requires { (2 ≤ net.size) × (net.size ≤ 1024) × (net.start ≤ 1024)
         × (entry_words * (w.e + 3 * up net.size) ≤ length log.old)
-        × Small net.size row.now × Padded net.size row.now × Held (up net.size) pairs.old w
+        × Small net.size rings.old.row × Padded net.size rings.old.row × Held (up net.size) rings.old.pairs w
         × (w.b < 65536) }
     ensures { Went (rounds (up net.size) net.start net.size w.b) 0 w result log.old log.new
-        × Held (up net.size) pairs.new result × ((place : ℕ → ℕ) (vs ts ms bs : List ℕ) (bit : ℕ)
-        → Gathered place net.size vs row.now → up net.size ≤ length ms
-        → state vs ts (marks_in (up net.size) pairs.new ms) (bits_in bit (up net.size - 1) pairs.new bs) result
+        × Held (up net.size) rings.new.pairs result × (rings.new.row ≡ rings.old.row) × ((place : ℕ → ℕ) (vs ts ms bs : List ℕ) (bit : ℕ)
+        → Gathered place net.size vs rings.old.row → up net.size ≤ length ms
+        → state vs ts (marks_in (up net.size) rings.new.pairs ms) (bits_in bit (up net.size - 1) rings.new.pairs bs) result
         ≡ rounds_of (wiring_of net.topology) (lying place net.size bit) (up net.size)
-        (state vs ts (marks_in (up net.size) pairs.old ms)
-        (bits_in bit (up net.size - 1) pairs.old bs) w)) }
+        (state vs ts (marks_in (up net.size) rings.old.pairs ms)
+        (bits_in bit (up net.size - 1) rings.old.pairs bs) w)) }
 {
     let k = (net.size + 1) / 2;
     let mut x = w;
-    let mut i = 0; // rounds done
-    while i < k {
-        x = round(row, pairs, net, log, x);
-        i += 1;
+    for _round in 0..k {
+        x = round(rings, net, log, x);
     }
     x
 }
@@ -79,28 +69,27 @@ fn rounds(
 // The rounds on the network's values, gathered once, and on pairs of which none is marked; and the bits that they settle.
 fn settle_inputs(
     vals: &[u16],
-    pairs: &mut [u16],
-    row: &mut [u16; 1024],
+    rings: &mut Rings,
     bits: &mut [u8],
-    net: wirings::Net,
+    net: Net,
     log: &mut [u16],
-    w: control_walk::Walk,
-) -> control_walk::Walk
-    requires { (2 ≤ net.size) × Covers net vals.now × (512 ≤ length pairs.old)
+    w: Walk,
+) -> Walk
+    requires { (2 ≤ net.size) × Covers net vals.now
         × (w.b + (up net.size - 1) ≤ length bits.old) × (entry_words * (w.e + 3 * up net.size) ≤ length log.old)
         × Within (place_of net) net.size 32768 vals.now × (w.f < 32768) × (w.c < 32768) × (w.b < 65536) }
     ensures { Went (rounds (up net.size) net.start net.size w.b) 0 w result log.old log.new
         × ((ts : List ℕ) (j : ℕ) → up net.size ≤ j
-        → state vals.now ts (marks_in (up net.size) pairs.new (replicate j 0)) bits.new result
+        → state vals.now ts (marks_in (up net.size) rings.new.pairs (replicate j 0)) bits.new result
         ≡ rounds_of (wiring_of net.topology) (subnetwork_of net w.b) (up net.size)
         (unmarked j vals.now ts bits.old w)) }
 {
     let k = (net.size + 1) / 2;
     let b = w.b;
-    control_rows::gather(row, vals, net.start, net.apart, net.size);
-    control_pairs::unmark(pairs, k);
-    let x = rounds(row, pairs, net, log, control_walk::unmarked(w));
-    control_pairs::give_bits(bits, b, k - 1, pairs);
+    control_rows::gather(&mut rings.row, vals, net.start, net.apart, net.size);
+    control_pairs::unmark(&mut rings.pairs, k);
+    let x = rounds(rings, net, log, w.unmarked());
+    control_pairs::give_bits(bits, b, k - 1, &rings.pairs);
     x
 }
 
@@ -108,14 +97,13 @@ fn settle_inputs(
 fn input_steps(
     vals: &mut [u16],
     trails: &mut [u16],
-    pairs: &mut [u16],
-    row: &mut [u16; 1024],
+    rings: &mut Rings,
     bits: &mut [u8],
-    net: wirings::Net,
+    net: Net,
     log: &mut [u16],
-    w: control_walk::Walk,
-) -> control_walk::Walk
-    requires { (2 ≤ net.size) × Room net w vals.old trails.old pairs.old bits.old log.old
+    w: Walk,
+) -> Walk
+    requires { (2 ≤ net.size) × Room net w vals.old trails.old bits.old log.old
         × Tidy (unmarked 512 vals.old trails.old bits.old w)
         × Ordered (subnetwork_of net w.b) (unmarked 512 vals.old trails.old bits.old w) }
     ensures { Went (input_entries net.start net.size w.b) (up net.size - 1) w result log.old log.new
@@ -127,7 +115,7 @@ fn input_steps(
     if net.size < 3 {
         return w;
     }
-    let x = settle_inputs(vals, pairs, row, bits, net, log, w);
+    let x = settle_inputs(vals, rings, bits, net, log, w);
     control_layers::step4(vals, trails, bits, net, log, x)
 }
 
@@ -135,14 +123,13 @@ fn input_steps(
 fn enter(
     vals: &mut [u16],
     trails: &mut [u16],
-    pairs: &mut [u16],
-    row: &mut [u16; 1024],
+    rings: &mut Rings,
     bits: &mut [u8],
-    net: wirings::Net,
+    net: Net,
     log: &mut [u16],
-    w: control_walk::Walk,
-) -> control_walk::Walk
-    requires { (2 ≤ net.size) × Room net w vals.old trails.old pairs.old bits.old log.old
+    w: Walk,
+) -> Walk
+    requires { (2 ≤ net.size) × Room net w vals.old trails.old bits.old log.old
         × Tidy (unmarked 512 vals.old trails.old bits.old w)
         × Ordered (subnetwork_of net w.b) (unmarked 512 vals.old trails.old bits.old w)
         × Lengthens (place_of net) net.size trails.old }
@@ -154,7 +141,7 @@ fn enter(
         trails.old bits.old w))) }
 {
     let first = w.b; // of the network's bits
-    let x = input_steps(vals, trails, pairs, row, bits, net, log, w);
+    let x = input_steps(vals, trails, rings, bits, net, log, w);
     control_layers::step5(vals, trails, net, first, log, x)
 }
 
@@ -162,14 +149,13 @@ fn enter(
 pub fn set_network(
     vals: &mut [u16],
     trails: &mut [u16],
-    pairs: &mut [u16],
-    row: &mut [u16; 1024],
+    rings: &mut Rings,
     bits: &mut [u8],
-    net: wirings::Net,
+    net: Net,
     log: &mut [u16],
-    w: control_walk::Walk,
-) -> control_walk::Walk
-    requires { Room net w vals.old trails.old pairs.old bits.old log.old
+    w: Walk,
+) -> Walk
+    requires { Room net w vals.old trails.old bits.old log.old
         × Tidy (unmarked 512 vals.old trails.old bits.old w)
         × Ordered (subnetwork_of net w.b) (unmarked 512 vals.old trails.old bits.old w)
         × Lengthens (place_of net) net.size trails.old }
@@ -183,8 +169,8 @@ pub fn set_network(
         return w;
     }
     let first = w.b; // of the network's bits
-    let x = enter(vals, trails, pairs, row, bits, net, log, w);
-    let y = set_network(vals, trails, pairs, row, bits, wirings::top(net), log, x);
-    let z = set_network(vals, trails, pairs, row, bits, wirings::bottom(net), log, y);
+    let x = enter(vals, trails, rings, bits, net, log, w);
+    let y = set_network(vals, trails, rings, bits, net.top(), log, x);
+    let z = set_network(vals, trails, rings, bits, net.bottom(), log, y);
     control_layers::step6(vals, trails, bits, net, first, log, z)
 }

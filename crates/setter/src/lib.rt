@@ -10,58 +10,30 @@ ghost use Rattle.permutation.specs.Permutations.{IsPermutation};
 ghost use Rattle.wirings.specs.Nets.{wiring_of};
 ghost use Rattle.setter.specs.Inner.{Sets, SetsIn};
 
-// The table starts as the order.
-fn load(vals: &mut [u16], order: &[u16])
-    requires { length vals.old ≡ length order.now }
-    ensures { vals.new ≡ order.now }
-{
-    let n = order.len();
-    let mut i = 0;
-    while i < n {
-        vals[i] = order[i];
-        i += 1;
-    }
-}
+use control_rings::Rings;
+use control_walk::Walk;
+use wirings::{Net, Topology};
 
 // The setter on a table of the order's length.
 fn set_table(
-    t: wirings::Topology,
+    t: Topology,
     order: &[u16],
     vals: &mut [u16],
     trails: &mut [u16],
-    pairs: &mut [u16],
-    row: &mut [u16; 1024],
+    rings: &mut Rings,
     bits: &mut [u8],
     log: &mut [u16],
 ) -> usize
     requires { (length order.now ≤ 1024) × IsPermutation (length order.now) order.now × (length vals.old ≡ length order.now)
-        × (trails.old ≡ replicate (length order.now) 0) × (512 ≤ length pairs.old)
+        × (trails.old ≡ replicate (length order.now) 0)
         × (length bits.old ≡ W (length order.now)) × (length bits.old ≤ 9217)
         × (entry_words * E (length order.now) ≤ length log.old) }
     ensures { SetsIn (wiring_of t) order.now log.old result bits.new log.new }
 {
-    let n = order.len();
-    let len = bits.len();
-    load(vals, order);
-    control_sweeps::clear(bits, len);
-    let w = control_network::set_network(
-        vals,
-        trails,
-        pairs,
-        row,
-        bits,
-        wirings::whole(t, n),
-        log,
-        control_walk::Walk {
-            f: 0,
-            c: 0,
-            g: 0,
-            s: 0,
-            any: 0,
-            e: 0,
-            b: 0,
-        },
-    );
+    vals.copy_from_slice(order);
+    bits.fill(0);
+    let whole = Net::whole(t, order.len());
+    let w = control_network::set_network(vals, trails, rings, bits, whole, log, Walk::default());
     w.e
 }
 
@@ -72,11 +44,11 @@ pub fn set_order(order: &[u16], bits: &mut [u8], log: &mut [u16]) -> usize
         × (length bits.old ≤ 9217) × (entry_words * E (length order.now) ≤ length log.old) }
     ensures { Sets order.now log.old result bits.new log.new }
 {
-    set_order_in(wirings::Topology::Paper, order, bits, log)
+    set_order_in(Topology::Paper, order, bits, log)
 }
 
 // The same in the wiring t.
-pub fn set_order_in(t: wirings::Topology, order: &[u16], bits: &mut [u8], log: &mut [u16]) -> usize
+pub fn set_order_in(t: Topology, order: &[u16], bits: &mut [u8], log: &mut [u16]) -> usize
     requires { (length order.now ≤ 1024) × IsPermutation (length order.now) order.now × (length bits.old ≡ W (length order.now))
         × (length bits.old ≤ 9217) × (entry_words * E (length order.now) ≤ length log.old) }
     ensures { SetsIn (wiring_of t) order.now log.old result bits.new log.new }
@@ -84,15 +56,16 @@ pub fn set_order_in(t: wirings::Topology, order: &[u16], bits: &mut [u8], log: &
     let n = order.len();
     let mut vals = [0u16; 1024];
     let mut trails = [0u16; 1024];
-    let mut pairs = [0u16; 512];
-    let mut row = [0u16; 1024];
+    let mut rings = Rings {
+        row: [0; 1024],
+        pairs: [0; 512],
+    };
     set_table(
         t,
         order,
         &mut vals[..n],
         &mut trails[..n],
-        &mut pairs,
-        &mut row,
+        &mut rings,
         bits,
         log,
     )

@@ -32,17 +32,17 @@ set_network-y-requires t c =
     let p = c.requires in
     let two : 2 ≤ a.net.size = c.if-net-lt2.false in
     let x = c.enter-x in
-    let D : Entered a.net a.w x.result a.vals.now a.trails.now a.pairs.now a.bits.now a.log.now
-    x.new.vals x.new.trails x.new.pairs x.new.bits x.new.log =
-    done x.ensures x.auto.vals x.auto.trails x.auto.pairs x.auto.bits x.auto.log in
+    let D : Entered a.net a.w x.result a.vals.now a.trails.now a.bits.now a.log.now
+    x.new.vals x.new.trails x.new.bits x.new.log =
+    done x.ensures x.auto.vals x.auto.trails x.auto.bits x.auto.log in
     let A = c.top.ensures in
     let size : c.top.result.size ≡ up a.net.size = A.size in (
       omega (arith, two, c.decreases, size),
       (
-        room_top a.net a.w a.vals.now a.trails.now a.pairs.now a.bits.now a.log.now two p.0 p.1 p.2 p.3 D A,
-        tidy_top a.net a.w a.vals.now a.trails.now a.pairs.now a.bits.now a.log.now two p.0 p.1 p.2 p.3 D A,
-        ordered_top a.net a.w a.vals.now a.trails.now a.pairs.now a.bits.now a.log.now two p.0 p.1 p.2 p.3 D A,
-        lengthens_top a.net a.w a.vals.now a.trails.now a.pairs.now a.bits.now a.log.now two p.0 p.1 p.2 p.3 D A,
+        room_top a.net a.w a.vals.now a.trails.now a.bits.now a.log.now two p.0 p.1 p.2 p.3 D A,
+        tidy_top a.net a.w a.vals.now a.trails.now a.bits.now a.log.now two p.0 p.1 p.2 p.3 D A,
+        ordered_top a.net a.w a.vals.now a.trails.now a.bits.now a.log.now two p.0 p.1 p.2 p.3 D A,
+        lengthens_top a.net a.w a.vals.now a.trails.now a.bits.now a.log.now two p.0 p.1 p.2 p.3 D A,
       ),
     )
 
@@ -53,21 +53,21 @@ set_network-z-requires t c =
     let two : 2 ≤ a.net.size = c.if-net-lt2.false in
     let x = c.enter-x in
     let y = c.set_network-y in
-    let D : Entered a.net a.w x.result a.vals.now a.trails.now a.pairs.now a.bits.now a.log.now
-    x.new.vals x.new.trails x.new.pairs x.new.bits x.new.log =
-    done x.ensures x.auto.vals x.auto.trails x.auto.pairs x.auto.bits x.auto.log in
+    let D : Entered a.net a.w x.result a.vals.now a.trails.now a.bits.now a.log.now
+    x.new.vals x.new.trails x.new.bits x.new.log =
+    done x.ensures x.auto.vals x.auto.trails x.auto.bits x.auto.log in
     let A = c.top.ensures in
     let D₂ : Set a.net.topology (up a.net.size) (λ i. place_of a.net (side_of a.net (i, false))) x.result y.result
-    x.new.vals x.new.trails x.new.pairs x.new.bits x.new.log y.new.vals y.new.trails y.new.pairs y.new.bits y.new.log =
-    half_done A y.ensures y.auto.vals y.auto.trails y.auto.pairs y.auto.bits y.auto.log in
+    x.new.vals x.new.trails x.new.bits x.new.log y.new.vals y.new.trails y.new.bits y.new.log =
+    half_done A y.ensures y.auto.vals y.auto.trails y.auto.bits y.auto.log in
     let B = c.bottom.ensures in
     let size : c.bottom.result.size ≡ down a.net.size = B.size in (
       omega (arith, two, c.decreases, size),
       (
-        room_bottom a.net a.w a.vals.now a.trails.now a.pairs.now a.bits.now a.log.now two p.0 p.1 p.2 p.3 D A D₂ B,
-        tidy_bottom a.net a.w a.vals.now a.trails.now a.pairs.now a.bits.now a.log.now two p.0 p.1 p.2 p.3 D A D₂ B,
-        ordered_bottom a.net a.w a.vals.now a.trails.now a.pairs.now a.bits.now a.log.now two p.0 p.1 p.2 p.3 D A D₂ B,
-        lengthens_bottom a.net a.w a.vals.now a.trails.now a.pairs.now a.bits.now a.log.now two p.0 p.1 p.2 p.3 D A D₂ B,
+        room_bottom a.net a.w a.vals.now a.trails.now a.bits.now a.log.now two p.0 p.1 p.2 p.3 D A D₂ B,
+        tidy_bottom a.net a.w a.vals.now a.trails.now a.bits.now a.log.now two p.0 p.1 p.2 p.3 D A D₂ B,
+        ordered_bottom a.net a.w a.vals.now a.trails.now a.bits.now a.log.now two p.0 p.1 p.2 p.3 D A D₂ B,
+        lengthens_bottom a.net a.w a.vals.now a.trails.now a.bits.now a.log.now two p.0 p.1 p.2 p.3 D A D₂ B,
       ),
     )
 
@@ -79,18 +79,18 @@ step6-requires t c =
     let x = c.enter-x in
     let y = c.set_network-y in
     let z = c.set_network-z in
-    let D : Entered a.net a.w x.result a.vals.now a.trails.now a.pairs.now a.bits.now a.log.now
-    x.new.vals x.new.trails x.new.pairs x.new.bits x.new.log =
-    done x.ensures x.auto.vals x.auto.trails x.auto.pairs x.auto.bits x.auto.log in
+    let D : Entered a.net a.w x.result a.vals.now a.trails.now a.bits.now a.log.now
+    x.new.vals x.new.trails x.new.bits x.new.log =
+    done x.ensures x.auto.vals x.auto.trails x.auto.bits x.auto.log in
     let A = c.top.ensures in
     let D₂ : Set a.net.topology (up a.net.size) (λ i. place_of a.net (side_of a.net (i, false))) x.result y.result
-    x.new.vals x.new.trails x.new.pairs x.new.bits x.new.log y.new.vals y.new.trails y.new.pairs y.new.bits y.new.log =
-    half_done A y.ensures y.auto.vals y.auto.trails y.auto.pairs y.auto.bits y.auto.log in
+    x.new.vals x.new.trails x.new.bits x.new.log y.new.vals y.new.trails y.new.bits y.new.log =
+    half_done A y.ensures y.auto.vals y.auto.trails y.auto.bits y.auto.log in
     let B = c.bottom.ensures in
     let D₃ : Set a.net.topology (down a.net.size) (λ i. place_of a.net (side_of a.net (i, true))) y.result z.result
-    y.new.vals y.new.trails y.new.pairs y.new.bits y.new.log z.new.vals z.new.trails z.new.pairs z.new.bits z.new.log =
-    half_done B z.ensures z.auto.vals z.auto.trails z.auto.pairs z.auto.bits z.auto.log in
-    asks_six a.net a.w a.vals.now a.trails.now a.pairs.now a.bits.now a.log.now two p.0 p.1 p.2 p.3 D A D₂ B D₃
+    y.new.vals y.new.trails y.new.bits y.new.log z.new.vals z.new.trails z.new.bits z.new.log =
+    half_done B z.ensures z.auto.vals z.auto.trails z.auto.bits z.auto.log in
+    asks_six a.net a.w a.vals.now a.trails.now a.bits.now a.log.now two p.0 p.1 p.2 p.3 D A D₂ B D₃
 
 pub returns : goal.returns
 returns t c =
@@ -100,20 +100,20 @@ returns t c =
     let x = c.enter-x in
     let y = c.set_network-y in
     let z = c.set_network-z in
-    let D : Entered a.net a.w x.result a.vals.now a.trails.now a.pairs.now a.bits.now a.log.now
-    x.new.vals x.new.trails x.new.pairs x.new.bits x.new.log =
-    done x.ensures x.auto.vals x.auto.trails x.auto.pairs x.auto.bits x.auto.log in
+    let D : Entered a.net a.w x.result a.vals.now a.trails.now a.bits.now a.log.now
+    x.new.vals x.new.trails x.new.bits x.new.log =
+    done x.ensures x.auto.vals x.auto.trails x.auto.bits x.auto.log in
     let A = c.top.ensures in
     let D₂ : Set a.net.topology (up a.net.size) (λ i. place_of a.net (side_of a.net (i, false))) x.result y.result
-    x.new.vals x.new.trails x.new.pairs x.new.bits x.new.log y.new.vals y.new.trails y.new.pairs y.new.bits y.new.log =
-    half_done A y.ensures y.auto.vals y.auto.trails y.auto.pairs y.auto.bits y.auto.log in
+    x.new.vals x.new.trails x.new.bits x.new.log y.new.vals y.new.trails y.new.bits y.new.log =
+    half_done A y.ensures y.auto.vals y.auto.trails y.auto.bits y.auto.log in
     let B = c.bottom.ensures in
     let D₃ : Set a.net.topology (down a.net.size) (λ i. place_of a.net (side_of a.net (i, true))) y.result z.result
-    y.new.vals y.new.trails y.new.pairs y.new.bits y.new.log z.new.vals z.new.trails z.new.pairs z.new.bits z.new.log =
-    half_done B z.ensures z.auto.vals z.auto.trails z.auto.pairs z.auto.bits z.auto.log in
+    y.new.vals y.new.trails y.new.bits y.new.log z.new.vals z.new.trails z.new.bits z.new.log =
+    half_done B z.ensures z.auto.vals z.auto.trails z.auto.bits z.auto.log in
     let q = c.step6.ensures in (
-      whole_log a.net a.w a.vals.now a.trails.now a.pairs.now a.bits.now a.log.now two p.0 p.1 p.2 p.3 D A D₂ B D₃ q.0
+      whole_log a.net a.w a.vals.now a.trails.now a.bits.now a.log.now two p.0 p.1 p.2 p.3 D A D₂ B D₃ q.0
           (λ ms. q.1 ms a.w.b),
-      whole_state a.net a.w a.vals.now a.trails.now a.pairs.now a.bits.now a.log.now two p.0 p.1 p.2 p.3 D A D₂ B D₃ q.0
+      whole_state a.net a.w a.vals.now a.trails.now a.bits.now a.log.now two p.0 p.1 p.2 p.3 D A D₂ B D₃ q.0
           (λ ms. q.1 ms a.w.b),
     )

@@ -18,17 +18,17 @@ use Rattle.control_network.proofs.Entries.{went_then, went_as}
 use Rattle.control_network.proofs.round.Goals as goal
 
 pub step1-x-requires : goal.step1-x-requires
-step1-x-requires c = let H = c.requires.7 in (
+step1-x-requires c = let H = c.requires.6 in (
   c.requires.0,
   c.requires.1,
   c.requires.2,
   omega arith,
-  c.requires.5,
+  c.requires.4,
   H.f_below,
   H.c_below,
   rw H.any_is
-      (digit_small (not (none_in (up c.args.net.size) c.args.pairs.now))),
-  c.requires.8,
+      (digit_small (not (none_in (up c.args.net.size) c.args.rings.now.pairs))),
+  c.requires.7,
 )
 
 pub step2-y-requires : goal.step2-y-requires
@@ -36,21 +36,20 @@ step2-y-requires c = let x = c.step1-x in (
   c.requires.0,
   c.requires.1,
   c.requires.2,
-  omega (arith, c.requires.4, x.ensures.0.count),
-  c.requires.6,
+  omega (arith, c.requires.3, x.ensures.0.count),
+  c.requires.5,
   x.ensures.2.2,
-  omega (arith, c.requires.8, x.ensures.0.bit),
+  omega (arith, c.requires.7, x.ensures.0.bit),
 )
 
 pub step3-requires : goal.step3-requires
 step3-requires c = let x = c.step1-x in
     let y = c.step2-y in
-    let H = c.requires.7 in (
+    let H = c.requires.6 in (
       c.requires.0,
       c.requires.1,
       c.requires.2,
-      c.requires.3,
-      omega (arith, c.requires.4, x.ensures.0.count, y.ensures.0.count),
+      omega (arith, c.requires.3, x.ensures.0.count, y.ensures.0.count),
       record {
         numbered = H.numbered;
         any_is = y.ensures.1 ∙ x.ensures.1 ∙ H.any_is;
@@ -58,7 +57,7 @@ step3-requires c = let x = c.step1-x in
         c_below = omega (arith, y.ensures.2.1, x.ensures.2.1);
       },
       y.ensures.2.2,
-      omega (arith, c.requires.8, x.ensures.0.bit, y.ensures.0.bit),
+      omega (arith, c.requires.7, x.ensures.0.bit, y.ensures.0.bit),
     )
 
 pub returns : goal.returns
@@ -74,14 +73,15 @@ returns c = let a = c.args in
     let xb : x.result.b ≡ a.w.b = omega (arith, x.ensures.0.bit) in
     let yb : y.result.b ≡ a.w.b = omega (arith, xb, y.ensures.0.bit) in (
       went_as (λ i. entry 1 o m a.w.b ∷ entry 2 o m (xb i) ∷ entry 3 o m (yb i) ∷ []) refl
-          (went_then (omega (arith, p.4)) x.ensures.0
-          (went_then (omega (arith, p.4, x.ensures.0.count)) y.ensures.0 z.ensures.0)),
+          (went_then (omega (arith, p.3)) x.ensures.0
+          (went_then (omega (arith, p.3, x.ensures.0.count)) y.ensures.0 z.ensures.0)),
       z.ensures.1,
+      z.ensures.2,
       λ place vs ts ms bs bit G long.
-          let marks : List ℕ = marks_in k a.pairs.now ms in
-          let held : List ℕ = bits_in bit (k - 1) a.pairs.now bs in
-          let any = p.7.any_is ∙ sym (ap (λ (n : Bool). digit (not n)) (none_held k a.pairs.now ms long)) in
-          z.ensures.2 place vs ts ms bs bit long
+          let marks : List ℕ = marks_in k a.rings.now.pairs ms in
+          let held : List ℕ = bits_in bit (k - 1) a.rings.now.pairs bs in
+          let any = p.6.any_is ∙ sym (ap (λ (n : Bool). digit (not n)) (none_held k a.rings.now.pairs ms long)) in
+          z.ensures.3 place vs ts ms bs bit long
           ∙ ap (step3 (wiring_of a.net.topology) (lying place a.net.size bit))
           (y.ensures.3 place vs ts marks held bit G ∙ ap (step2 (wiring_of a.net.topology) (lying place a.net.size bit))
           (x.ensures.3 place vs ts marks held bit G any)),

@@ -1,4 +1,4 @@
--- The first i rounds are done.
+-- The first rounds are done.
 -- Assumes nothing.
 use mathlib.Core.Path.{◌≡◌}
 use Prim.Native.Nat.{ℕ, ◌-◌, ◌≤◌}
@@ -14,15 +14,11 @@ use Rattle.control_walk.specs.Walks.{state, lying, Went}
 use Rattle.control_rings.specs.Turns.{Held}
 use Rattle.control_network.proofs.rounds.Given as goal
 
-abbrev pub invariant-loop-i : goal.invariant-loop-i
-invariant-loop-i l =
-    ((l.i ≤ up l.net.size) × (length l.pairs ≡ length l.initial.pairs) × (length l.log ≡ length l.initial.log))
-    × Went (rounds l.i l.net.start l.net.size l.initial.x.b) 0 l.initial.x l.x l.initial.log l.log
-    × Held (up l.net.size) l.pairs l.x
-    × ((place : ℕ → ℕ) (vs ts ms bs : List ℕ) (bit : ℕ) → Gathered place l.net.size vs l.row → up l.net.size ≤ length ms
-    → state vs ts (marks_in (up l.net.size) l.pairs ms) (bits_in bit (up l.net.size - 1) l.pairs bs) l.x
-    ≡ rounds_of (wiring_of l.net.topology) (lying place l.net.size bit) l.i (state vs ts (marks_in (up l.net.size) l.initial.pairs ms)
-    (bits_in bit (up l.net.size - 1) l.initial.pairs bs) l.initial.x))
-
-abbrev pub decreases-loop-i : goal.decreases-loop-i
-decreases-loop-i l = up l.net.size - l.i
+abbrev pub invariant-loop-round : goal.invariant-loop-round
+invariant-loop-round l =
+    Went (rounds l._round l.net.start l.net.size l.initial.x.b) 0 l.initial.x l.x l.initial.log l.log
+    × Held (up l.net.size) l.rings.pairs l.x × (l.rings.row ≡ l.initial.rings.row)
+    × ((place : ℕ → ℕ) (vs ts ms bs : List ℕ) (bit : ℕ) → Gathered place l.net.size vs l.initial.rings.row → up l.net.size ≤ length ms
+    → state vs ts (marks_in (up l.net.size) l.rings.pairs ms) (bits_in bit (up l.net.size - 1) l.rings.pairs bs) l.x
+    ≡ rounds_of (wiring_of l.net.topology) (lying place l.net.size bit) l._round (state vs ts (marks_in (up l.net.size) l.initial.rings.pairs ms)
+    (bits_in bit (up l.net.size - 1) l.initial.rings.pairs bs) l.initial.x))

@@ -24,7 +24,7 @@ pub gather-requires : goal.gather-requires
 gather-requires c = ((small c.requires.1 c.requires.0).0, c.requires.1.inside.lies)
 
 pub unmark-requires : goal.unmark-requires
-unmark-requires c = (omega (arith, small c.requires.1 c.requires.0), c.requires.2)
+unmark-requires c = omega (arith, small c.requires.1 c.requires.0)
 
 pub rounds-x-requires : goal.rounds-x-requires
 rounds-x-requires c = let a = c.args in
@@ -37,18 +37,17 @@ rounds-x-requires c = let a = c.args in
       c.requires.0,
       z.0,
       z.1,
-      omega (arith, c.requires.2, u.auto.pairs),
-      omega (arith, c.requires.4, ap (λ (r : Walk). r.e) w.ensures),
-      small_gathered (place_of a.net) m a.vals.now g.new.row c.requires.5 g.ensures.0,
+      omega (arith, c.requires.3, ap (λ (r : Walk). r.e) w.ensures),
+      small_gathered (place_of a.net) m a.vals.now g.new.row c.requires.4 g.ensures.0,
       g.ensures.1,
       record {
         numbered = unmarked_numbered (up m) u.new.pairs few u.ensures;
         any_is = ap (λ (r : Walk). r.any) w.ensures ∙ sym
             (ap (λ (n : Bool). digit (not n)) (unmarked_none (up m) u.new.pairs few u.ensures));
-        f_below = omega (arith, c.requires.6, ap (λ (r : Walk). r.f) w.ensures);
-        c_below = omega (arith, c.requires.7, ap (λ (r : Walk). r.c) w.ensures);
+        f_below = omega (arith, c.requires.5, ap (λ (r : Walk). r.f) w.ensures);
+        c_below = omega (arith, c.requires.6, ap (λ (r : Walk). r.c) w.ensures);
       },
-      omega (arith, c.requires.8, ap (λ (r : Walk). r.b) w.ensures),
+      omega (arith, c.requires.7, ap (λ (r : Walk). r.b) w.ensures),
     )
 
 pub overflow_sub-k : goal.overflow_sub-k
@@ -59,8 +58,8 @@ unfolding Numbered
 give_bits-requires c = let r = c.rounds-x in
     let u = c.unmark in
     let N = r.ensures.1.numbered in (
-      omega (arith, small c.requires.1 c.requires.0, c.requires.2, u.auto.pairs, r.auto.pairs),
-      c.requires.3,
+      omega (arith, small c.requires.1 c.requires.0),
+      c.requires.2,
       λ i l. (N i
           (omega (arith, l, c.requires.0))).1,
     )
@@ -79,8 +78,8 @@ returns c = let a = c.args in
       λ ts j h.
           let ms : List ℕ = replicate {A = ℕ} j 0 in
           let of : List ℕ → List ℕ → Walk → State = λ marks bits x. state a.vals.now ts marks bits x in
-          ap (λ (bits : List ℕ). of (marks_in k r.new.pairs ms) bits r.result) v.ensures
-          ∙ r.ensures.2 (place_of a.net) a.vals.now ts ms a.bits.now a.w.b g.ensures.0
+          ap (λ (bits : List ℕ). of (marks_in k r.new.rings.pairs ms) bits r.result) v.ensures
+          ∙ r.ensures.3 (place_of a.net) a.vals.now ts ms a.bits.now a.w.b g.ensures.0
           (omega (arith, h, length-replicate {A = ℕ} j 0))
           ∙ ap (rounds_of (wiring_of a.net.topology) (subnetwork_of a.net a.w.b) k)
           (ap (λ (marks : List ℕ). of marks (bits_in a.w.b (k - 1) u.new.pairs a.bits.now) w.result)

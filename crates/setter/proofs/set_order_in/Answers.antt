@@ -1,6 +1,5 @@
 -- The local arrays are 0, and their lent parts have the length of the order.
 -- Assumes nothing.
-use native.Mathlib.Omega.{arith}
 use mathlib.Core.Path.{sym, ap, ◌∙◌}
 use Prim.Native.Nat.{ℕ}
 use lib.ListN.{length}
@@ -22,7 +21,6 @@ set_table-requires c = let n = length c.args.order.now in (
   c.requires.1,
   ap length (took 1024 n c.requires.0) ∙ length-replicate {A = ℕ} n 0,
   took 1024 n c.requires.0,
-  omega (arith, length-replicate {A = ℕ} 512 0),
   c.requires.2,
   c.requires.3,
   c.requires.4,

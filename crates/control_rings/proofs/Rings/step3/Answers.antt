@@ -1,7 +1,7 @@
 -- The sweeps give what step 3 says.
 -- Assumes nothing.
 use native.Mathlib.Omega.{arith}
-use mathlib.Core.Path.{ap, ◌∙◌}
+use mathlib.Core.Path.{refl, ap, ◌∙◌}
 use Prim.Native.Nat.{◌-◌, ◌≤◌}
 use lib.ListN.{length}
 use Rattle.counts.specs.Counts.{up}
@@ -12,7 +12,7 @@ use Rattle.control_pairs.proofs.Held.{settled_numbered}
 use Rattle.control_walk.specs.declared.Walk.{Walk}
 use Rattle.control_walk.proofs.Going.{went_one}
 use Rattle.control_rings.proofs.Stepping.{low_within, turned_small, turned_round, any_after, step3_is}
-use Rattle.control_rings.proofs.step3.Goals as goal
+use Rattle.control_rings.proofs.Rings.step3.Goals as goal
 
 pub overflow_sub-bit : goal.overflow_sub-bit
 overflow_sub-bit c = let a = c.args in
@@ -46,7 +46,7 @@ returns c = let a = c.args in
     let k = up a.net.size in
     let few : k ≤ 512 = omega (arith, c.requires.1) in
     let H = c.requires.4 in
-    let room : 512 ≤ length a.pairs.now = omega arith in
+    let room : 512 ≤ length a.self.now.pairs = omega arith in
     let T = c.settle-low in
     let p = c.pair_of-pair in
     let b = c.below in
@@ -64,9 +64,10 @@ returns c = let a = c.args in
         f_below = rw c.turn.ensures small.0;
         c_below = rw c.turn.ensures small.1;
       },
+      refl,
       λ place vs ts ms bs bit₀ long.
           step3_is (wiring_of a.net.topology) place a.net.size bit₀ vs ts a.w c.turn.result p.result
           (1 - c.side_of-bit.result)
-          T.result _ a.pairs.now _ ms bs
+          T.result _ a.self.now.pairs _ ms bs
           few room bit.1 H.numbered long p.ensures bit.0 T.ensures c.turn.ensures,
     )
