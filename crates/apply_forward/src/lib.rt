@@ -30,8 +30,8 @@ pub fn run(
         return e;
     }
     let k = (m + 1) / 2; // the places of the top network
-    let step = wirings::step(t, apart);
-    let gap = wirings::gap(t, k, apart);
+    let step = t.step(apart);
+    let gap = t.gap(k, apart);
     if m == 2 {
         apply_pairs::pair(blocks, width, gap, o, bits, log, e);
         return e + 1;

@@ -57,7 +57,7 @@ pub fn set_order_in(t: Topology, order: &[u16], bits: &mut [u8], log: &mut [u16]
     let mut vals = [0u16; 1024];
     let mut trails = [0u16; 1024];
     let mut rings = Rings {
-        row: [0; 1024],
+        row: [65535; 1024], // no value
         pairs: [0; 512],
     };
     set_table(

@@ -107,18 +107,3 @@ impl Net {
         }
     }
 }
-
-// The two as functions.
-pub fn step(topology: Topology, apart: usize) -> usize
-    requires { step_of topology apart < 18446744073709551616 }
-    ensures { result ≡ step_of topology apart }
-{
-    topology.step(apart)
-}
-
-pub fn gap(topology: Topology, k: usize, apart: usize) -> usize
-    requires { gap_of topology k apart < 18446744073709551616 }
-    ensures { result ≡ gap_of topology k apart }
-{
-    topology.gap(k, apart)
-}
