@@ -10,8 +10,7 @@ use Rattle.wirings.specs.declared.Topology.{Topology}
 use Rattle.wirings.specs.Nets.{wiring_of}
 use Rattle.wirings.proofs.Halves.{lawful}
 use Rattle.apply_questions.proofs.Asked.{passes}
-use Rattle.gauges.specs.declared.GaugeReport.{GaugeReport}
-use Rattle.gauges.specs.Calls.{report_call}
+use Rattle.gauges.specs.Calls.{GaugeReport, report_call}
 use Rattle.gauges.proofs.Exchanges.{report_moved, report_moved_back}
 use Rattle.claims.specs.Calls.{Direction, mixing, returning, Call, move, moved_by, outcome_of}
 use Rattle.claims.specs.Charts.{SameReport}
