@@ -1,14 +1,17 @@
 -- An order as the programs read it, a count and that many entries, as sheet numbers; and its setting (01, 'Month cases').
 -- Assumes nothing: these are definitions.
-use Rattle.std.specs.Prelude.{List, [], ◌∷◌, ◌++◌, ℕ}
+use Rattle.std.specs.Prelude.{List, [], ◌∷◌, ◌++◌, ℕ, Result, Ok, Err}
+use Rattle.answers.specs.declared.Refusal.{Refusal}
+use Rattle.answers.specs.Answers.{answer_with}
 use Rattle.answers.specs.Questions.{Question, Verdict, first_no}
-use Rattle.answers.specs.Outcomes.{beside_of, Outcome, settled}
+use Rattle.answers.specs.Outcomes.{beside_of, Outcome, outcome, settled}
 use Rattle.counts.specs.Counts.{E}
 use Rattle.network.specs.Wiring.{paper}
 use Rattle.questions.specs.Asked.{places_few, an_order, ends_at}
 use Rattle.steps.specs.Setting.{setting_for}
 use Rattle.numbers.specs.Numbers.{number_questions, number_at, sevens}
 use Rattle.rows.specs.Rows.{numbers_questions, numbers_at, place_past}
+use Rattle.cmd_read_order.specs.declared.OrderSet.{OrderSet}
 
 -- ---- what an input holds
 
@@ -63,6 +66,14 @@ pub record Reported : Type 0 where
 
 abbrev pub reported : Outcome → ℕ → Reported
 reported o e = record { outcome = o; entries = e }
+
+-- what a call gives, and the bits as it leaves them, as that record
+abbrev pub entries_of : Result OrderSet Refusal → ℕ
+entries_of (Ok s) = s.entries
+entries_of (Err r) = 0
+
+abbrev pub report_of : Result OrderSet Refusal → List ℕ → Reported
+report_of r bits = reported (outcome (answer_with (λ s. s.places) r) bits) (entries_of r)
 
 -- what setting an order of n places comes to, after some questions
 abbrev pub set_report : List Question → ℕ → List ℕ → List ℕ → Reported

@@ -3,12 +3,11 @@
 #![tactic(auto)]
 
 ghost use Rattle.std.specs.Prelude.{◌≡◌, ◌≤◌, length, replicate};
-ghost use Rattle.answers.specs.Outcomes.{outcome};
 ghost use Rattle.rows.specs.Rows.{Row};
-ghost use Rattle.cmd_read_order.specs.Orders.{order_room, count_in, order_in, end_of, form_questions, entry_questions, set_report, reported, order_report};
+ghost use Rattle.cmd_read_order.specs.Orders.{order_room, count_in, order_in, form_questions, entry_questions, set_report, report_of, order_report};
 
-use answers::Answer;
-use numbers::ReadNumber;
+use answers::{Reason, Refusal};
+use numbers::Number;
 
 // Room for the longest order, which has 2,050 bytes, and a byte more, so that a surplus shows.
 pub const ORDER_ROOM: usize = 2051;
@@ -20,71 +19,57 @@ pub fn input_buffer() -> [u8; ORDER_ROOM]
     [0; ORDER_ROOM]
 }
 
-// An answer, and beside it the number of entries that the setter logged: 0 in a refusal.
-#[derive(Clone, Copy)]
+// An order was set: its places, and the number of entries that the setter logged.
+#[derive(Clone, Copy, Debug, PartialEq, Eq)]
 pub struct OrderSet {
-    pub answer: Answer,
+    pub places: usize,
     pub entries: usize,
 }
 
-// The count and its entries, and whether the input ends there: the count with the place after the last entry, or the
-// refusal. The entries go to the front of order.
-fn read_order(input: &[u8], order: &mut [u16]) -> ReadNumber
+// The count and its entries, and whether the input ends there. The entries go to the front of order.
+fn read_order(input: &[u8], order: &mut [u16]) -> Result<usize, Refusal>
     requires { 1024 ≤ length order.old }
-    ensures { Row (form_questions input.now) (count_in input.now) (end_of input.now)
+    ensures { Row (form_questions input.now) (count_in input.now)
         (count_in input.now) (order_in input.now) order.new result }
 {
-    let count = numbers::read_number(input, 0);
-    let ReadNumber::Number(n, at) = count else {
-        return count;
-    };
+    let Number { value: n, next: at } = numbers::read_number(input, 0)?;
     if counts::MOST_PLACES < n {
-        return ReadNumber::Refused(1, 0);
+        return Err(Refusal::of(Reason::Places));
     }
-    let entries = rows::read_row(input, at, n, order);
-    let ReadNumber::Number(_, end) = entries else {
-        return entries;
-    };
+    let end = rows::read_row(input, at, n, order)?.next;
     if end < input.len() {
-        return ReadNumber::Refused(12, end);
+        return Err(Refusal::at(Reason::InputEnd, end));
     }
-    ReadNumber::Number(n, end)
+    Ok(n)
 }
 
 // Question 6, and the setting over the front of bits.
-fn set(order: &[u16], bits: &mut [u8]) -> OrderSet
+fn set(order: &[u16], bits: &mut [u8]) -> Result<OrderSet, Refusal>
     requires { (length order.now ≤ 1024) × (9217 ≤ length bits.old) }
-    ensures { reported (outcome result.answer bits.new) result.entries
+    ensures { report_of result bits.new
         ≡ set_report (entry_questions order.now) (length order.now) order.now bits.old }
 {
     let bad = permutation::first_bad_entry(order);
     if bad != order.len() {
-        return refused(answers::refuse(6, bad));
+        return Err(Refusal::at(Reason::Entry, bad));
     }
     let w = counts::switches(order.len());
     let entries = setting_order::setting_of_order(order, &mut bits[..w]);
-    OrderSet {
-        answer: answers::accept(order.len()),
+    Ok(OrderSet {
+        places: order.len(),
         entries,
-    }
+    })
 }
 
-fn refused(answer: Answer) -> OrderSet
-    ensures { (result.answer ≡ answer) × (result.entries ≡ 0) }
-{
-    OrderSet { answer, entries: 0 }
-}
-
-// The setting of the order that an input holds, over the front of bits, and as count its places. A refusal leaves the bits
-// alone. 9,217 bits are enough for each order.
-pub fn order_setting(input: &[u8], bits: &mut [u8; counts::MOST_SWITCHES]) -> OrderSet
-    ensures { reported (outcome result.answer bits.new) result.entries
-        ≡ order_report input.now bits.old }
+// The setting of the order that an input holds, over the front of bits. A refusal leaves the bits alone. 9,217 bits are enough
+// for each order.
+pub fn order_setting(
+    input: &[u8],
+    bits: &mut [u8; counts::MOST_SWITCHES],
+) -> Result<OrderSet, Refusal>
+    ensures { report_of result bits.new ≡ order_report input.now bits.old }
 {
     let mut order = [0u16; 1024];
-    let read = read_order(input, &mut order);
-    let ReadNumber::Number(n, _) = read else {
-        return refused(numbers::answer(read));
-    };
+    let n = read_order(input, &mut order)?;
     set(&order[..n], bits)
 }
