@@ -1,13 +1,16 @@
 -- The text of an input, return by return of `settings_text`.
 -- Assumes nothing.
-use mathlib.Core.Path.{◌≡◌, sym, ap, ◌∙◌}
+use mathlib.Core.Path.{◌≡◌, refl, sym, ap, ◌∙◌}
 use mathlib.Core.List.{List}
 use Prim.Native.Nat.{ℕ, ◌≤◌, ◌<◌}
 use native.Mathlib.Omega.{arith}
 use lib.ListN.{length, take, length-append}
-use Rattle.answers.specs.declared.Answer.{Answer}
-use Rattle.answers.specs.Questions.{Verdict, all_yes, no_at, first_no}
-use Rattle.answers.specs.Outcomes.{answer_of, Outcome, outcome}
+use Rattle.std.specs.Prelude.{Ok, Err}
+use Rattle.answers.specs.declared.Refusal.{Refusal}
+use Rattle.answers.specs.Answers.{accepted, number_of}
+use Rattle.answers.specs.Questions.{Verdict, first_no}
+use Rattle.answers.specs.Outcomes.{Outcome}
+use Rattle.answers.proofs.Results.{err_no}
 use Rattle.counts.specs.Counts.{W, E}
 use Rattle.answers.specs.Buffers.{Put}
 use Rattle.cmd_text.specs.Text.{decimal, refusal_line}
@@ -15,7 +18,8 @@ use Rattle.cmd_text.specs.Written.{written}
 use Rattle.cmd_text.proofs.Decimal.{digits_few}
 use Rattle.cmd_text.proofs.Lines.{bits_within}
 use Rattle.cmd_text.proofs.Written.{text-written}
-use Rattle.cmd_read_order.specs.Orders.{count_in, order_questions, order_setting, reported, order_report}
+use Rattle.cmd_read_order.specs.declared.OrderSet.{OrderSet}
+use Rattle.cmd_read_order.specs.Orders.{count_in, order_questions, order_setting, report_of, order_report}
 use Rattle.cmd_read_order.proofs.Outcomes.{Accepted, order-accepted, report_outcome, report_entries}
 use Rattle.cmd_settings.specs.Settings.{setting_lines, text_of, settings_text, settings_call}
 
@@ -39,35 +43,26 @@ pub text_of_lem : (input : List ℕ) {v : Verdict} → first_no (order_questions
 unfolding settings_text
 text_of_lem input e = ap (λ v. text_of v input) e
 
-settled_no : (v : Verdict) (c : ℕ) {a : Answer} → a ≡ answer_of v c → (a.number ≡ 0 → ⊥) → v ≡ no_at a.number a.place
-settled_no all_yes c e n = absurd (n (ap (λ (a : Answer). a.number) e))
-settled_no (no_at q p) c e n = rw e
-
-module _ (input before : List ℕ) {a : Answer} {bits : List ℕ} (O : outcome a bits ≡ order_setting input before) where
-  pub prints_refusal : (a.number ≡ 0 → ⊥) → settings_text input ≡ refusal_line a.number a.place
+module _ (input before : List ℕ) {bits : List ℕ} where
+  pub prints_refusal : (r : Refusal) → report_of (Err r) bits ≡ order_report input before → settings_text input ≡ refusal_line (number_of r.reason) r.place
   unfolding order_setting
-  prints_refusal n = text_of_lem input (settled_no (first_no (order_questions input)) (count_in input) (ap (λ (o : Outcome). o.answer) O) n)
+  prints_refusal r R =
+      let answered = ap (λ (o : Outcome). o.answer) (report_outcome input before R) in
+      text_of_lem input (err_no (λ (s : OrderSet). s.places) r (first_no (order_questions input)) (count_in input) answered)
 
-  module _ (z : a.number ≡ 0) where
-    held : Accepted input a bits
-    held = order-accepted input before O z
+  module _ (s : OrderSet) (R : report_of (Ok s) bits ≡ order_report input before) where
+    accepts : Accepted input (accepted s.places) bits
+    accepts = order-accepted input before (report_outcome input before R) refl
 
-    pub places_few_lem : a.count ≤ 1024
-    places_few_lem = held.few
+    pub places_few_lem : s.places ≤ 1024
+    places_few_lem = accepts.few
 
-    pub bits_there : {w : ℕ} → w ≡ W a.count → w ≤ length bits
-    bits_there e = omega (arith, e, held.room)
-
--- with the number of entries that the setter reported
-module _
-    (input before : List ℕ) {a : Answer} {bits : List ℕ} {entries : ℕ}
-    (R : reported (outcome a bits) entries ≡ order_report input before) (z : a.number ≡ 0)
-  where
-    accepts : Accepted input a bits
-    accepts = order-accepted input before (report_outcome input before R) z
-
-    pub entries_are : entries ≡ E a.count
+    pub entries_are : s.entries ≡ E s.places
     entries_are = report_entries input before R accepts.asked ∙ ap E (sym accepts.places)
 
-    pub prints_lines : {w : ℕ} → w ≡ W a.count → settings_text input ≡ setting_lines a.count (take w bits) entries
-    prints_lines w = text_of_lem input accepts.asked ∙ rw (w, entries_are, accepts.setting, accepts.places)
+    module _ {w : ℕ} (exact : w ≡ W s.places) where
+      pub bits_there : w ≤ length bits
+      bits_there = omega (arith, exact, accepts.room)
+
+      pub prints_lines : settings_text input ≡ setting_lines s.places (take w bits) s.entries
+      prints_lines = text_of_lem input accepts.asked ∙ rw (exact, entries_are, accepts.setting, accepts.places)

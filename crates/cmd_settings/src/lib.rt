@@ -21,12 +21,11 @@ pub fn settings_text(input: &[u8], out: &mut [u8; 9252]) -> usize
     ensures { written result out.new ≡ settings_call input.now out.old }
 {
     let mut bits = [0u8; counts::MOST_SWITCHES];
-    let set = cmd_read_order::order_setting(input, &mut bits);
-    let answer = set.answer;
-    if answer.number != 0 {
-        return cmd_text::put_refusal(out, answer);
+    match cmd_read_order::order_setting(input, &mut bits) {
+        Ok(set) => {
+            let w = counts::switches(set.places);
+            put_lines(out, set.places, &bits[..w], set.entries)
+        }
+        Err(refused) => cmd_text::put_refusal(out, refused),
     }
-    let n = answer.count;
-    let w = counts::switches(n);
-    put_lines(out, n, &bits[..w], set.entries)
 }
