@@ -1,18 +1,20 @@
 -- What crosses to C and back, in the crates' own definitions.
 -- Assumes nothing: these are definitions.
-use Rattle.std.specs.Prelude.{true, false, List, [], ◌∷◌, ℕ, eqb, length, get_or}
+use Rattle.std.specs.Prelude.{Result, true, false, List, [], ◌∷◌, ℕ, eqb, length, get_or}
 use Rattle.answers.specs.declared.Answer.{Answer}
+use Rattle.answers.specs.declared.Refusal.{Refusal}
+use Rattle.answers.specs.Answers.{answer_with}
 use Rattle.answers.specs.Questions.{first_no}
 use Rattle.answers.specs.Outcomes.{answer_of}
 use Rattle.gauges.specs.declared.Figures.{Figures}
-use Rattle.gauges.specs.declared.GaugeReport.{GaugeReport}
+use Rattle.gauges.specs.Calls.{GaugeReport}
 use Rattle.numbers.specs.Numbers.{NumberAnswer}
 use Rattle.permutation.specs.Permutations.{tabulate}
 use Rattle.questions.specs.Asked.{places_few}
 use Rattle.records.specs.declared.Permutation.{Permutation}
 use Rattle.records.specs.declared.Reply.{Reply}
 use Rattle.shuffle.specs.declared.Drawn.{Drawn}
-use Rattle.capi_values.specs.declared.CAnswer.{CAnswer}
+use Rattle.shuffle.specs.Shuffled.{Shuffled, used_in}
 use Rattle.capi_values.specs.declared.CNumber.{CNumber}
 use Rattle.capi_values.specs.declared.CDrawn.{CDrawn}
 use Rattle.capi_values.specs.declared.CReport.{CReport}
@@ -20,17 +22,16 @@ use Rattle.capi_values.specs.declared.CRecord.{CRecord}
 
 -- ---- answers
 
--- the answer that a C caller is told
-abbrev pub answer_in : CAnswer → Answer
-answer_in r = record { number = r.number; place = r.place; count = r.count }
-
--- the number reader's
+-- the number reader's answer, as a C caller is told it
 abbrev pub number_in : CNumber → NumberAnswer
-number_in r = record { answer = answer_in r.answer; value = r.value; next = r.next }
+number_in r = record { answer = r.answer; value = r.value; next = r.next }
 
--- a draw's
-abbrev pub drawn_in : CDrawn → Drawn
-drawn_in r = record { answer = answer_in r.answer; used = r.used }
+-- a draw's, from what the draw gave, and with the lent entries
+abbrev pub drawn_from : Result Drawn Refusal → CDrawn
+drawn_from r = record { answer = answer_with (λ (d : Drawn). d.count) r; used = used_in r }
+
+abbrev pub drawn_in : CDrawn → List ℕ → Shuffled
+drawn_in r out = record { answer = r.answer; used = r.used; buffer = out }
 
 -- a gauge's report
 abbrev pub figures_in : CReport → Figures
@@ -45,7 +46,7 @@ figures_in r =
     }
 
 abbrev pub report_in : CReport → GaugeReport
-report_in r = record { answer = answer_in r.answer; figures = figures_in r }
+report_in r = record { answer = r.answer; figures = figures_in r }
 
 -- an asking of a count of n places: question 1, then the count
 abbrev pub counted : (ℕ → ℕ) → ℕ → Answer
@@ -63,7 +64,7 @@ pub record Told : Type 0 where
   pub fixed : ℕ
 
 abbrev pub told_in : CRecord → Told
-told_in r = record { answer = answer_in r.answer; fixed = r.fixed }
+told_in r = record { answer = r.answer; fixed = r.fixed }
 
 abbrev pub told : Reply → Told
 told r = record { answer = r.answer; fixed = r.permutation.fixed }

@@ -1,85 +1,77 @@
-// What crosses between the calls for C (crate capi) and the crates that do the work: answers, the answers of the number reader
-// and of a draw, a gauge's report, and a permutation as its entries and its number.
+// What crosses between the calls for C (crate capi) and the crates that do the work: the answers of the number reader and of a
+// draw, a gauge's report, and a permutation as its entries and its number. A call that gives no more than an answer gives
+// `answers::Answer` itself. 01 lays each out in plain numbers for C, so these are no Results; each is made from one.
 #![tactic(auto)]
 
 ghost use Rattle.std.specs.Prelude.{◌≡◌, length, get_or};
 ghost use Rattle.numbers.specs.Reading.{meaning};
-ghost use Rattle.capi_values.specs.Crossing.{answer_in, number_in, drawn_in, report_in, told_in, told, lending, record_in, spread, lent};
+ghost use Rattle.gauges.specs.Calls.{report_from};
+ghost use Rattle.capi_values.specs.Crossing.{number_in, drawn_from, report_in, told_in, told, lending, record_in, spread, lent};
 
-use gauges::GaugeReport;
-use numbers::ReadNumber;
+use answers::{Answer, Refusal};
+use gauges::Figures;
+use numbers::Number;
 use records::{Permutation, Reply};
 use shuffle::Drawn;
 
-// An answer as C lays it out.
-#[repr(C)]
-#[derive(Clone, Copy)]
-pub struct CAnswer {
-    pub number: usize,
-    pub place: usize,
-    pub count: usize,
-}
-
-pub fn tell(a: answers::Answer) -> CAnswer
-    ensures { answer_in result ≡ a }
-{
-    CAnswer {
-        number: a.number,
-        place: a.place,
-        count: a.count,
-    }
-}
-
 // The answer of the number reader, with the two numbers that stand beside it.
 #[repr(C)]
-#[derive(Clone, Copy)]
+#[derive(Clone, Copy, Debug, PartialEq, Eq)]
 pub struct CNumber {
-    pub answer: CAnswer,
+    pub answer: Answer,
     pub value: usize,
     pub next: usize,
 }
 
-pub fn tell_number(r: ReadNumber) -> CNumber
-    ensures { number_in result ≡ meaning r }
-{
-    let answer = tell(numbers::answer(r));
-    let ReadNumber::Number(value, next) = r else {
-        return CNumber {
-            answer,
-            value: 0,
-            next: 0,
-        };
-    };
-    CNumber {
-        answer,
-        value,
-        next,
+impl From<Result<Number, Refusal>> for CNumber {
+    ghost from_gives = { λ read given. number_in given ≡ meaning read };
+
+    fn from(read: Result<Number, Refusal>) -> CNumber {
+        match read {
+            Ok(number) => CNumber {
+                answer: Answer::from(Ok(0)),
+                value: number.value,
+                next: number.next,
+            },
+            Err(refusal) => CNumber {
+                answer: Answer::from(Err(refusal)),
+                value: 0,
+                next: 0,
+            },
+        }
     }
 }
 
 // The answer of a draw, with the number of words used.
 #[repr(C)]
-#[derive(Clone, Copy)]
+#[derive(Clone, Copy, Debug, PartialEq, Eq)]
 pub struct CDrawn {
-    pub answer: CAnswer,
+    pub answer: Answer,
     pub used: usize,
 }
 
-pub fn tell_drawn(r: Drawn) -> CDrawn
-    ensures { drawn_in result ≡ r }
-{
-    let answer = tell(r.answer);
-    CDrawn {
-        answer,
-        used: r.used,
+impl From<Result<Drawn, Refusal>> for CDrawn {
+    ghost from_gives = { λ drawn given. given ≡ drawn_from drawn };
+
+    fn from(drawn: Result<Drawn, Refusal>) -> CDrawn {
+        match drawn {
+            Ok(drawn) => CDrawn {
+                answer: Answer::from(Ok(drawn.count)),
+                used: drawn.used,
+            },
+            Err(refusal) => CDrawn {
+                answer: Answer::from(Err(refusal)),
+                used: 0,
+            },
+        }
     }
 }
 
 // The answer of a gauge's report, with its six numbers.
 #[repr(C)]
-#[derive(Clone, Copy)]
+#[derive(Clone, Copy, Debug, PartialEq, Eq)]
 pub struct CReport {
-    pub answer: CAnswer,
+    pub answer: Answer,
     pub count: usize,
     pub least: i64,
     pub greatest: i64,
@@ -88,19 +80,20 @@ pub struct CReport {
     pub remainder: i64,
 }
 
-pub fn tell_report(r: GaugeReport) -> CReport
-    ensures { report_in result ≡ r }
-{
-    let answer = tell(r.answer);
-    let f = r.figures;
-    CReport {
-        answer,
-        count: f.count,
-        least: f.least,
-        greatest: f.greatest,
-        sum: f.sum,
-        mean: f.mean,
-        remainder: f.remainder,
+impl From<Result<Figures, Refusal>> for CReport {
+    ghost from_gives = { λ report given. report_in given ≡ report_from report };
+
+    fn from(report: Result<Figures, Refusal>) -> CReport {
+        let figures = report.unwrap_or_default();
+        CReport {
+            answer: report.map(|_| 0).into(),
+            count: figures.count,
+            least: figures.least,
+            greatest: figures.greatest,
+            sum: figures.sum,
+            mean: figures.mean,
+            remainder: figures.remainder,
+        }
     }
 }
 
@@ -108,20 +101,20 @@ pub fn tell_report(r: GaugeReport) -> CReport
 
 // The answer of a call on a record, with the number that the record which it gives carries (how many entries stay home).
 #[repr(C)]
-#[derive(Clone, Copy)]
+#[derive(Clone, Copy, Debug, PartialEq, Eq)]
 pub struct CRecord {
-    pub answer: CAnswer,
+    pub answer: Answer,
     pub fixed: usize,
 }
 
-pub fn tell_record(reply: Reply) -> CRecord
-    ensures { told_in result ≡ told reply }
-{
-    let answer = tell(reply.answer);
-    let p = reply.permutation;
-    CRecord {
-        answer,
-        fixed: p.fixed,
+impl From<Reply> for CRecord {
+    ghost from_gives = { λ reply given. told_in given ≡ told reply };
+
+    fn from(reply: Reply) -> CRecord {
+        CRecord {
+            answer: reply.answer,
+            fixed: reply.permutation.fixed,
+        }
     }
 }
 
@@ -129,49 +122,39 @@ pub fn tell_record(reply: Reply) -> CRecord
 fn at(entries: &[u16], i: usize) -> u16
     ensures { result ≡ get_or entries.now i 0 }
 {
-    if i < entries.len() {
-        return entries[i];
-    }
-    0
+    entries.get(i).copied().unwrap_or(0)
 }
 
 // The record of lent entries and their number. Where more than 1,024 are lent the calls refuse it by its length.
-pub fn record_of(entries: &[u16], fixed: usize) -> Permutation
-    ensures { result ≡ record_in entries.now fixed }
+pub fn record_of(lent: &[u16], fixed: usize) -> Permutation
+    ensures { result ≡ record_in lent.now fixed }
 {
-    let mut e = [0u16; 1024];
-    let mut i = 0;
-    while i < 1024 {
-        e[i] = at(entries, i);
-        i += 1;
+    let mut entries = [0u16; 1024];
+    for (i, entry) in entries.iter_mut().enumerate() {
+        *entry = at(lent, i);
     }
     Permutation {
-        length: entries.len(),
-        entries: e,
+        length: lent.len(),
+        entries,
         fixed,
     }
 }
 
 // A record's entries over all the lent ones.
-fn put(p: Permutation, entries: &mut [u16])
-    ensures { entries.new ≡ spread p (length entries.old) }
+fn put(p: Permutation, lent: &mut [u16])
+    ensures { lent.new ≡ spread p (length lent.old) }
 {
-    let e = p.entries;
-    let n = entries.len();
-    let mut i = 0;
-    while i < n {
-        entries[i] = at(&e, i);
-        i += 1;
+    for (i, entry) in lent.iter_mut().enumerate() {
+        *entry = at(&p.entries, i);
     }
 }
 
 pub fn give(reply: Reply, entries: &mut [u16]) -> CRecord
     ensures { lending (told_in result) entries.new ≡ lent reply entries.old }
 {
-    let answer = reply.answer;
-    if answer.number != 0 { // nothing is written
-        return tell_record(reply);
+    if reply.answer.number != 0 { // nothing is written
+        return CRecord::from(reply);
     }
     put(reply.permutation, entries);
-    tell_record(reply)
+    CRecord::from(reply)
 }

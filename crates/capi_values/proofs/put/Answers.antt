@@ -1,14 +1,10 @@
+-- `capi_values::put` meets its contract.
 -- Assumes nothing.
-use mathlib.Core.Path.{refl}
 use native.Mathlib.Omega.{arith}
-use Rattle.capi_values.proofs.Crossing.{filling_starts, filling_more, filled}
+use lib.ListN.{get_or}
+use Rattle.permutation.proofs.Tables.{is_tabulate}
 use Rattle.capi_values.proofs.put.Goals as goal
 
-pub loop-i-init : goal.loop-i-init
-loop-i-init c = filling_starts _ _
-
-pub loop-i-preserved : goal.loop-i-preserved
-loop-i-preserved c = filling_more _ _ (omega arith) c.at.ensures c.loop-i.invariant
-
 pub returns : goal.returns
-returns c = filled _ _ refl (omega arith) c.loop-i.invariant
+returns c = let a = c.args in
+    is_tabulate (λ j. get_or a.p.entries j 0) _ c.loop-i.lent (omega arith) (λ j l. c.loop-i.invariant j (omega arith))

@@ -1,11 +1,9 @@
+-- `capi_values::put` meets its contract.
 -- Assumes nothing.
-use Prim.Native.Nat.{◌-◌}
+use mathlib.Core.Path.{◌≡◌}
+use Prim.Native.Nat.{ℕ, ◌<◌}
 use lib.ListN.{get_or}
-use Rattle.capi_values.proofs.Crossing.{Filling}
 use Rattle.capi_values.proofs.put.Given as goal
 
 abbrev pub invariant-loop-i : goal.invariant-loop-i
-invariant-loop-i l = Filling (λ j. get_or l.e j 0) l.initial.entries l.entries l.i
-
-abbrev pub decreases-loop-i : goal.decreases-loop-i
-decreases-loop-i l = l.n - l.i
+invariant-loop-i l = (j : ℕ) → j < l.i → get_or l.lent j 0 ≡ get_or l.fn.p.entries j 0

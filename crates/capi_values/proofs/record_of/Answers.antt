@@ -1,14 +1,16 @@
+-- `capi_values::record_of` meets its contract.
 -- Assumes nothing.
-use borrow.Author.Rules.{rules}
 use native.Mathlib.Omega.{arith}
-use Rattle.capi_values.proofs.Crossing.{filling_starts, filling_more, record_filled}
+use mathlib.Core.Path.{◌≡◌}
+use lib.ListN.{get_or}
+use Rattle.permutation.specs.Permutations.{tabulate}
+use Rattle.permutation.proofs.Tables.{is_tabulate}
+use Rattle.capi_values.specs.Crossing.{record_in}
 use Rattle.capi_values.proofs.record_of.Goals as goal
 
-pub loop-i-init : goal.loop-i-init
-loop-i-init c = filling_starts _ _
-
-pub loop-i-preserved : goal.loop-i-preserved
-loop-i-preserved c = filling_more _ _ (omega arith) c.at.ensures c.loop-i.invariant
-
 pub returns : goal.returns
-returns c = record_filled _ _ (search rules) (omega arith) c.loop-i.invariant
+unfolding record_in
+returns c = let es = c.args.lent.now in
+    let filled : c.loop-i.entry-items ≡ tabulate (λ j. get_or es j 0) 1024 =
+    is_tabulate (λ j. get_or es j 0) 1024 c.loop-i.entry-items (omega arith) (λ j l. c.loop-i.invariant j (omega arith)) in
+    rw filled
