@@ -1,30 +1,15 @@
--- How many arguments there are; an argument's digits, one at a time.
+-- An argument's digits, one at a time.
 -- Assumes nothing.
 use mathlib.Core.Path.{◌≡◌, refl, sym, ap, ◌∙◌}
-use mathlib.Core.Bool.{false}
 use mathlib.Core.List.{List, [], ◌∷◌}
 use Prim.Native.Nat.{ℕ, suc, ◌+◌, ◌-◌, ◌*◌, ◌≤◌, ◌<◌, min}
 use native.Mathlib.Numerals.{add-one}
 use native.Mathlib.Omega.{arith}
-use native.Mathlib.Decide.{ℕ_discrete}
-use borrow.Author.Tests.{le-leb, lt-leb, eq-eqb, ne_eqb}
-use lib.Dec.{eqb}
+use borrow.Author.Tests.{le-leb, lt-leb}
 use lib.ListN.{length, get_or, drop, drop_of_length-le}
 use lib.Seq.{drop-cons}
 use Rattle.std.specs.Prelude.{Some, None}
 use Rattle.cmd_arguments.specs.Decimal.{most, value_on, decimal_in}
-
--- ---- how many arguments there are
-
-pub all_none : (all k : ℕ) → all ≡ 0 → false ≡ eqb all (k + 1)
-all_none all k e = sym (ne_eqb all (k + 1) (λ d. omega arith))
-
-pub all_some : (all k : ℕ) → (all ≡ 0 → ⊥) → eqb (all - 1) k ≡ eqb all (k + 1)
-all_some all k n = go (ℕ_discrete all (k + 1))
-  where
-    go : Dec (all ≡ k + 1) → eqb (all - 1) k ≡ eqb all (k + 1)
-    go (yes e) = rw (eq-eqb all (k + 1) e) (eq-eqb (all - 1) k (omega arith))
-    go (no d) = rw (ne_eqb all (k + 1) d) (ne_eqb (all - 1) k (λ e. d (omega arith)))
 
 -- ---- a number
 

@@ -54,6 +54,3 @@ module _ (m : ℕ) (log bits : List ℕ) where
           same = e ∙ R.same;
           put = rw (rows_more place) (put_then (omega (arith, row_room h, R.put.place, R.same)) R.put P);
         }
-
-    pub rowing_ends : n ≤ place → Put before at (rows_in m log bits n) end out
-    rowing_ends h = let e : place ≡ n = omega (arith, R.within) in rw e at R.put

@@ -11,7 +11,7 @@ use Rattle.counts.proofs.Rule.{W_more}
 use Rattle.answers.specs.Buffers.{Put}
 use Rattle.answers.proofs.Putting.{put_then}
 use Rattle.cmd_text.specs.Text.{text}
-use Rattle.cmd_text.proofs.Lines.{put_kept, room_second, room_third, put_three}
+use Rattle.cmd_text.proofs.Lines.{room_third, put_three}
 use Rattle.cmd_picture_line.specs.Line.{group, groups, top_at, bottom_at, output_at, grouped}
 
 -- ---- one group
@@ -34,17 +34,11 @@ group_long (c ∷ cs) = omega (arith, length-append cs (text " "))
 -- ---- four parts, one behind another
 
 module _ (ys zs ws : List ℕ) {a : List ℕ} {at : ℕ} {xs : List ℕ} {r : ℕ} {b : List ℕ} (P : Put a at xs r b) (h : at + length (xs ++ (ys ++ (zs ++ ws))) ≤ length a) where
-  pub four_second : r + length ys ≤ length b
-  four_second = room_second ys (zs ++ ws) P h
-
   module _ {q : ℕ} {c : List ℕ} (Q : Put b r ys q c) where
     pub four_third : q + length zs ≤ length c
     four_third = omega (arith, room_third ys (zs ++ ws) P h Q, length-append zs ws)
 
     module _ {t : ℕ} {d : List ℕ} (R : Put c q zs t d) where
-      pub four_fourth : t + length ws ≤ length d
-      four_fourth = omega (arith, room_third ys (zs ++ ws) P h Q, length-append zs ws, R.place, put_kept four_third R)
-
       pub put_four : {u : ℕ} {e : List ℕ} → Put d t ws u e → Put a at (xs ++ (ys ++ (zs ++ ws))) u e
       put_four S = put_three ys (zs ++ ws) P h Q (put_then four_third R S)
 

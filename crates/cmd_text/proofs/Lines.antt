@@ -10,7 +10,7 @@ use lib.Dec.{eqb}
 use lib.ListN.{length, get_or, take, set, length-append, length-set}
 use lib.Seq.{take-suc, take_all, length-take-le, drop-drop}
 use borrow.Rule.Slice.PartMut.{put_mid}
-use borrow.Author.Tests.{ne_eqb, eqb-true, eqb-false}
+use borrow.Author.Tests.{eqb-true, eqb-false}
 use Rattle.answers.specs.declared.Reason.{Reason}
 use Rattle.answers.specs.declared.Reason.TheVariants.{Places, Width, BlockBytes, BitCount, LogRoom, Entry, BitByte, NextByte, ShortestForm, FormNumber, FillBits, InputEnd, OutputRoom, Place, OneLength, SmallOrder, Words}
 use Rattle.answers.specs.declared.Refusal.{Refusal}
@@ -118,12 +118,6 @@ pub empty_not : {b : Bool} {n : ℕ} → b ≡ eqb n 0 → b ≡ false → n ≡
 empty_not {n = n} e t = eqb-false n 0 (sym e ∙ t)
 
 -- ---- the bits
-
-pub bit-one : (b : ℕ) → b ≡ 1 → 49 ≡ character b
-bit-one b e = rw e
-
-pub bit-other : (b : ℕ) → (b ≡ 1 → ⊥) → 48 ≡ character b
-bit-other b n = rw (character, ne_eqb b 1 n)
 
 pub length-characters : (bs : List ℕ) → length (characters bs) ≡ length bs
 unfolding characters

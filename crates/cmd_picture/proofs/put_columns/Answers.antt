@@ -24,9 +24,6 @@ marked log bits place e lower upper p q = rw (p, q)
 pub loop-e-init : goal.loop-e-init
 loop-e-init c = lay_starts _ _ _
 
-pub overflow_add-out : goal.overflow_add-out
-overflow_add-out c = omega (arith, c.loop-e-test.true, long c.args.log.now c.args.bits.now c.args.place, c.requires, c.well_formed)
-
 pub bounds-out-at : goal.bounds-out-at
 bounds-out-at c = omega (arith, c.loop-e-test.true, c.loop-e.invariant.same, long c.args.log.now c.args.bits.now c.args.place, c.requires)
 
@@ -38,13 +35,6 @@ loop-e-preserved c = let log = c.args.log.now in
     (c.mark_at.ensures
     ∙ marked log bits place c.loop-e.e _ _ c.first_of-lower.ensures c.second_of-upper.ensures
     ∙ sym (tabulate-at (mark_in log bits place) (length bits) c.loop-e.e c.loop-e-test.true))
-
-pub overflow_add-result : goal.overflow_add-result
-overflow_add-result c =
-    omega (arith, c.loop-e.invariant.within, long c.args.log.now c.args.bits.now c.args.place, c.requires, c.well_formed)
-
-pub shape_of-out : goal.shape_of-out
-shape_of-out c = c.loop-e.invariant.same
 
 pub returns : goal.returns
 returns c =

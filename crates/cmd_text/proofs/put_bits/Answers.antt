@@ -14,23 +14,12 @@ returns-then-is_empty c = rw (bits_none _ (empty_is c.is_empty.ensures c.if-is_e
 pub loop-i-init : goal.loop-i-init
 loop-i-init c = lay_starts _ _ _
 
-pub bounds-bits-i : goal.bounds-bits-i
-bounds-bits-i c = omega (arith, length-characters c.args.bits.now)
-
-pub overflow_add-out : goal.overflow_add-out
-overflow_add-out c =
-    omega (arith, bits_long c.args.bits.now (empty_not c.is_empty.ensures c.if-is_empty.false), length-characters c.args.bits.now, c.requires, c.loop-i.invariant.within)
-
 pub bounds-out-at : goal.bounds-out-at
 bounds-out-at c = omega (arith, bits_long c.args.bits.now (empty_not c.is_empty.ensures c.if-is_empty.false), c.loop-i-test.true, c.requires, c.loop-i.invariant.same)
 
 pub loop-i-preserved : goal.loop-i-preserved
 loop-i-preserved c =
     lay_more _ _ _ _ _ c.loop-i.invariant _ (omega (arith, length-characters c.args.bits.now, c.loop-i-test.true)) (omega (arith, bits_long c.args.bits.now (empty_not c.is_empty.ensures c.if-is_empty.false), length-characters c.args.bits.now, c.requires)) (c.bit_character.ensures ∙ sym (character-at _ _ c.loop-i-test.true))
-
-pub overflow_add-result : goal.overflow_add-result
-overflow_add-result c =
-    omega (arith, bits_long c.args.bits.now (empty_not c.is_empty.ensures c.if-is_empty.false), length-characters c.args.bits.now, c.requires, c.loop-i.invariant.within)
 
 pub returns : goal.returns
 returns c =
