@@ -2,11 +2,11 @@
 #![tactic(auto)]
 
 ghost use Rattle.std.specs.Prelude.{◌≡◌, length, replicate};
+ghost use Rattle.answers.specs.Answers.{answer_from};
 ghost use Rattle.answers.specs.Outcomes.{outcome};
 ghost use Rattle.cmd_move.specs.Calls.{blocks_room, mix_call, unmix_call};
 
-use answers::Answer;
-use numbers::ReadNumber;
+use answers::Refusal;
 
 // Room for the most blocks, which have 262,144 bytes, and a byte more, so that a surplus shows.
 pub const BLOCKS_ROOM: usize = 262145;
@@ -18,28 +18,37 @@ pub fn blocks_buffer() -> [u8; BLOCKS_ROOM]
     [0; BLOCKS_ROOM]
 }
 
-// Forward (01: mix). The sheet is asked first, and then the blocks; nothing is written before.
-pub fn mix(sheet: &[u8], width: usize, blocks: &mut [u8]) -> Answer
-    ensures { outcome result blocks.new ≡ mix_call sheet.now width blocks.old }
+// The two directions share `read_setting`; what is left of each is one call. A function that took the call as a closure would
+// be no shorter, and its contract would have to hand on the contract of the call.
+
+/// Forward (01: mix). The sheet is asked first, and then the blocks; nothing is written before.
+pub fn mix(sheet: &[u8], width: usize, blocks: &mut [u8]) -> Result<usize, Refusal>
+    ensures { outcome (answer_from result) blocks.new ≡ mix_call sheet.now width blocks.old }
 {
     let mut bits = [0u8; counts::MOST_SWITCHES];
-    let read = sheet_reader::read_setting(sheet, &mut bits);
-    let ReadNumber::Number(n, w) = read else {
-        return numbers::answer(read);
-    };
+    let setting = sheet_reader::read_setting(sheet, &mut bits)?;
     let mut log = [0u16; entry_log::MOST_MOVE_WORDS];
-    apply::apply(n, width, blocks, &bits[..w], &mut log)
+    apply::apply(
+        setting.places,
+        width,
+        blocks,
+        &bits[..setting.switches],
+        &mut log,
+    )
 }
 
-// Backward (01: return).
-pub fn unmix(sheet: &[u8], width: usize, blocks: &mut [u8]) -> Answer
-    ensures { outcome result blocks.new ≡ unmix_call sheet.now width blocks.old }
+/// Backward (01: return).
+pub fn unmix(sheet: &[u8], width: usize, blocks: &mut [u8]) -> Result<usize, Refusal>
+    ensures { outcome (answer_from result) blocks.new ≡ unmix_call sheet.now width blocks.old }
 {
     let mut bits = [0u8; counts::MOST_SWITCHES];
-    let read = sheet_reader::read_setting(sheet, &mut bits);
-    let ReadNumber::Number(n, w) = read else {
-        return numbers::answer(read);
-    };
+    let setting = sheet_reader::read_setting(sheet, &mut bits)?;
     let mut log = [0u16; entry_log::MOST_MOVE_WORDS];
-    apply::apply_inverse(n, width, blocks, &bits[..w], &mut log)
+    apply::apply_inverse(
+        setting.places,
+        width,
+        blocks,
+        &bits[..setting.switches],
+        &mut log,
+    )
 }

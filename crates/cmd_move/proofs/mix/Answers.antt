@@ -2,6 +2,7 @@
 -- Assumes nothing.
 use mathlib.Core.Path.{sym}
 use lib.Seq.{length-take-le}
+use Rattle.std.proofs.lemmas.Result.{err_from_is_err_and}
 use Rattle.network.specs.Wiring.{paper}
 use Rattle.network.specs.Blocks.{moved}
 use Rattle.sheets.proofs.Setting.{setting_room}
@@ -10,18 +11,18 @@ use Rattle.cmd_move.specs.Calls.{mix_call}
 use Rattle.cmd_move.proofs.Moving.{move_refused, move_settles, unlogged}
 use Rattle.cmd_move.proofs.mix.Goals as goal
 
-pub returns-in_default : goal.returns-in_default
+pub returns-in_err-setting : goal.returns-in_err-setting
 unfolding mix_call
-returns-in_default c = move_refused (moved paper) _ _ _ _ c.read_setting-read.ensures c.in_default.is c.answer.ensures
+returns-in_err-setting c = let p = err_from_is_err_and c.from_residual.result c.from_residual.ensures.1 in
+    rw (p.1, p.2) (move_refused (moved paper) _ _ _ _ _ c.in_err-setting.ensures)
 
 pub slice_bounds-bits-end : goal.slice_bounds-bits-end
-slice_bounds-bits-end c = setting_room _ _ c.read_setting-read.ensures c.in-Number.is
+slice_bounds-bits-end c = setting_room _ _ c.in_ok-setting.ensures
 
 pub slice_bounds-apply-end : goal.slice_bounds-apply-end
-slice_bounds-apply-end c = sym (length-take-le _ _ (setting_room _ _ c.read_setting-read.ensures c.in-Number.is))
+slice_bounds-apply-end c = sym (length-take-le _ _ (setting_room _ _ c.in_ok-setting.ensures))
 
 pub returns : goal.returns
 unfolding mix_call apply_call
 returns c = let a = c.args in
-    move_settles (moved paper) a.sheet.now a.width a.blocks.now _ c.read_setting-read.ensures c.in-Number.is
-    (unlogged c.apply.ensures)
+    move_settles (moved paper) a.sheet.now a.width a.blocks.now _ c.in_ok-setting.ensures (unlogged c.apply.ensures)
