@@ -8,7 +8,11 @@ use lib.Dec.{leb}
 use lib.ListN.{length, get_or, take, drop, replicate, length-append}
 use lib.Seq.{length-take-le, take_at}
 use borrow.Author.Tests.{leb-true}
-use Rattle.answers.specs.declared.Answer.{Answer}
+use Rattle.std.specs.Prelude.{Result, Ok, Err, IsOk}
+use Rattle.answers.specs.declared.Refusal.{Refusal}
+use Rattle.answers.specs.Answers.{answer_from}
+use Rattle.answers.specs.Outcomes.{answer_of}
+use Rattle.answers.proofs.Results.{number_above}
 use Rattle.answers.specs.Questions.{first_bad_from, all_yes, first_no}
 use Rattle.answers.specs.Buffers.{Put}
 use Rattle.answers.specs.Outcomes.{buffer_of}
@@ -87,8 +91,8 @@ zeros k = replicate k 0
 
 -- as `put_order` calls it: the bits are the first w of 11, the log has room for 34 entries
 module _
-    (n r w : ℕ) (few : n ≤ 6) (h : r < factorial n) (exact : w ≡ W n) {a : Answer} {list bits log : List ℕ}
-    (told : ranked a list bits log ≡ ranked_call n r (zeros 6) (take w (zeros 11)) (zeros (entry_words * 34)))
+    (n r w : ℕ) (few : n ≤ 6) (h : r < factorial n) (exact : w ≡ W n) (made : Result ℕ Refusal) {list bits log : List ℕ}
+    (told : ranked (answer_from made) list bits log ≡ ranked_call n r (zeros 6) (take w (zeros 11)) (zeros (entry_words * 34)))
   where
     full : length (take w (zeros 11)) ≡ w
     full = length-take-le w (zeros 11) (omega (arith, exact, six_switches n few))
@@ -103,6 +107,14 @@ module _
           bit_count = full ∙ exact;
           log_room = omega (arith, six_entries n few);
         })
+
+    pub not_refused : IsOk made
+    unfolding ranked_call
+    not_refused = go made (ap (λ (x : Ranked). x.answer.number) told ∙ ap (λ v. (answer_of v (E n)).number) yes_all)
+      where
+        go : (r : Result ℕ Refusal) → (answer_from r).number ≡ 0 → IsOk r
+        go (Ok x) z = refl
+        go (Err x) z = absurd (omega (arith, number_above x.reason, z))
 
     order_left : take n list ≡ order_at n r
     unfolding ranked_call

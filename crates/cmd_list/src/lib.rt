@@ -2,12 +2,15 @@
 #![tactic(auto)]
 
 ghost use Rattle.std.specs.Prelude.{◌≡◌, ◌+◌, ◌≤◌, ◌<◌, length, replicate};
+ghost use Rattle.answers.specs.Questions.{first_no};
 ghost use Rattle.answers.specs.Buffers.{Put};
+ghost use Rattle.numbers.specs.Reading.{ReadAs};
 ghost use Rattle.orders_listed.specs.Ranks.{factorial};
 ghost use Rattle.cmd_text.specs.Written.{written};
-ghost use Rattle.cmd_list.specs.Listing.{order_line, orders_of, list_room, list_call};
+ghost use Rattle.cmd_list.specs.Listing.{order_line, orders_of, length_in, list_questions, list_room, list_call};
 
-use numbers::ReadNumber;
+use answers::{Reason, Refusal};
+use numbers::Number;
 
 // Room for a length of 6 or less, which has one byte, and a byte more, so that a surplus shows; or for a longer one, which is refused.
 pub const LIST_ROOM: usize = 2;
@@ -24,17 +27,24 @@ pub fn input_buffer() -> [u8; LIST_ROOM]
 pub fn orders_text(input: &[u8], out: &mut [u8; 17280]) -> usize
     ensures { written result out.new ≡ list_call input.now out.old }
 {
-    let read = numbers::read_number(input, 0);
-    let ReadNumber::Number(n, next) = read else {
-        return cmd_text::put_refusal(out, numbers::answer(read));
-    };
+    match read_length(input) {
+        Ok(n) => put_orders(out, n),
+        Err(refused) => cmd_text::put_refusal(out, refused),
+    }
+}
+
+// The length that an input holds, if it is short enough and the input ends there.
+fn read_length(input: &[u8]) -> Result<usize, Refusal>
+    ensures { ReadAs (first_no (list_questions input.now)) (length_in input.now) result }
+{
+    let Number { value: n, next } = numbers::read_number(input, 0)?;
     if 6 < n {
-        return cmd_text::put_refusal(out, answers::refuse(17, 0));
+        return Err(Refusal::of(Reason::SmallOrder));
     }
     if next < input.len() {
-        return cmd_text::put_refusal(out, answers::refuse(12, next));
+        return Err(Refusal::at(Reason::InputEnd, next));
     }
-    put_orders(out, n)
+    Ok(n)
 }
 
 // A line for each order of n places, over the front of out.
@@ -42,12 +52,10 @@ fn put_orders(out: &mut [u8], n: usize) -> usize
     requires { (n ≤ 6) × (17280 ≤ length out.old) }
     ensures { Put out.old 0 (orders_of n) result out.new }
 {
-    let total = orders_listed::count_orders(n) as usize;
+    let total = usize::from(orders_listed::count_orders(n));
     let mut at = 0;
-    let mut r = 0;
-    while r < total {
+    for r in 0..total {
         at = put_order(out, at, n, r);
-        r += 1;
     }
     at
 }
@@ -61,6 +69,6 @@ fn put_order(out: &mut [u8], at: usize, n: usize, r: usize) -> usize
     let mut bits = [0u8; 11];
     let mut log = [0u16; entry_log::ENTRY_WORDS * 34];
     let w = counts::switches(n);
-    listed_order::ranked_order(n, r, &mut order, &mut bits[..w], &mut log);
+    listed_order::ranked_order(n, r, &mut order, &mut bits[..w], &mut log).unwrap(); // no question gets a no
     cmd_list_line::put_line(out, at, &order[..n], &bits[..w])
 }

@@ -2,11 +2,11 @@
 -- Assumes nothing.
 use mathlib.Core.Path.{◌≡◌, refl, sym, ap, ◌∙◌}
 use mathlib.Core.List.{List, [], ◌∷◌, ◌++◌, append-nil, append_assoc}
-use Prim.Native.Nat.{ℕ, ◌+◌, ◌≤◌, ◌<◌}
+use Prim.Native.Nat.{ℕ, ◌+◌, ◌-◌, ◌≤◌, ◌<◌}
 use native.Mathlib.Numerals.{add-one}
 use native.Mathlib.Omega.{arith}
-use lib.ListN.{length, get_or, drop, length-append, drop_of_length-le}
-use lib.Seq.{drop-cons}
+use lib.ListN.{length, get_or, take, drop, length-append, drop_of_length-le}
+use lib.Seq.{drop-cons, take_all}
 use Rattle.answers.specs.Buffers.{Put}
 use Rattle.answers.proofs.Putting.{put_none, put_then}
 use Rattle.cmd_text.specs.Text.{text, decimal, bits_text}
@@ -20,23 +20,27 @@ unfolding entries_text
 entries_none [] e = refl
 entries_none (x ∷ xs) e = absurd (omega arith)
 
-pub entries_some : (xs : List ℕ) → (length xs ≡ 0 → ⊥) → entries_text xs ≡ decimal (get_or xs 0 0) ++ behind_commas (drop 1 xs)
-unfolding entries_text
-entries_some [] n = absurd (n refl)
-entries_some (x ∷ xs) n = refl
+-- the entries behind the first, as the code has them
+abbrev pub others : List ℕ → List ℕ
+others xs = take (length xs - 1) (drop 1 xs)
 
--- what the loop keeps: behind the first entry some more are put, and those from the i-th on are left
+pub entries_some : (xs : List ℕ) → 1 ≤ length xs → entries_text xs ≡ decimal (get_or xs 0 0) ++ behind_commas (others xs)
+unfolding entries_text
+entries_some [] h = absurd (omega arith)
+entries_some (x ∷ xs) h = ap (λ l. decimal x ++ behind_commas l) (sym (take_all (length (x ∷ xs) - 1) xs (omega arith)))
+
+-- what the loop keeps: of the entries behind the first some are put, and those from the i-th on are left
 pub record Parting (entries before : List ℕ) (start : ℕ) (out : List ℕ) (end i : ℕ) : Type 0 where
   pub done : List ℕ
   pub put : Put before start done end out
   pub same : length out ≡ length before
-  pub whole : done ++ behind_commas (drop i entries) ≡ behind_commas (drop 1 entries)
+  pub whole : done ++ behind_commas (drop i entries) ≡ behind_commas entries
   pub room : end + length (behind_commas (drop i entries)) ≤ length out
 
 pub parting_starts :
     (entries before : List ℕ) (start : ℕ)
-    → start + length (behind_commas (drop 1 entries)) ≤ length before
-    → Parting entries before start before start 1
+    → start + length (behind_commas entries) ≤ length before
+    → Parting entries before start before start 0
 parting_starts entries before start h = record { done = []; put = put_none before start; same = refl; whole = refl; room = h }
 
 module _ {entries before : List ℕ} {start : ℕ} {out : List ℕ} {end i : ℕ} (L : Parting entries before start out end i) where
@@ -75,10 +79,10 @@ module _ {entries before : List ℕ} {start : ℕ} {out : List ℕ} {end i : ℕ
             room = room_third x rest P next_room Q;
           }
 
-  pub parting_ends : length entries ≤ i → Put before start (behind_commas (drop 1 entries)) end out
+  pub parting_ends : length entries ≤ i → Put before start (behind_commas entries) end out
   unfolding behind_commas
   parting_ends h =
-      let all : L.done ≡ behind_commas (drop 1 entries) =
+      let all : L.done ≡ behind_commas entries =
       sym (append-nil L.done) ∙ ap (λ l. L.done ++ behind_commas l) (sym (drop_of_length-le entries h)) ∙ L.whole
       in
       rw (← all) L.put

@@ -22,15 +22,13 @@ fn put_entries(out: &mut [u8], at: usize, entries: &[u16]) -> usize
     requires { at + length (entries_text entries.now) ≤ length out.old }
     ensures { Put out.old at (entries_text entries.now) result out.new }
 {
-    if entries.len() == 0 {
+    let [first, rest @ ..] = entries else {
         return at;
-    }
-    let mut end = cmd_text::put_decimal(out, at, entries[0] as usize);
-    let mut i = 1;
-    while i < entries.len() {
+    };
+    let mut end = cmd_text::put_decimal(out, at, usize::from(*first));
+    for entry in rest {
         let a = cmd_text::put_text(out, end, b",");
-        end = cmd_text::put_decimal(out, a, entries[i] as usize);
-        i += 1;
+        end = cmd_text::put_decimal(out, a, usize::from(*entry));
     }
     end
 }
