@@ -5,7 +5,6 @@ use mathlib.Core.List.{List, ◌++◌}
 use Prim.Native.Nat.{ℕ, ◌+◌, ◌*◌, ◌≤◌, ◌<◌}
 use native.Mathlib.Omega.{arith}
 use lib.ListN.{length, take, length-append}
-use Rattle.answers.specs.declared.Answer.{Answer}
 use Rattle.answers.specs.Answers.{accepted}
 use Rattle.answers.specs.Questions.{first_no}
 use Rattle.answers.specs.Buffers.{overlay, Put}
@@ -18,10 +17,11 @@ use Rattle.answers.proofs.Putting.{put_then, put_length}
 use Rattle.cmd_text.specs.Text.{text, decimal, bits_text, line}
 use Rattle.cmd_text.proofs.Decimal.{digits_few}
 use Rattle.cmd_text.proofs.Lines.{put_kept, bits_within}
-use Rattle.numbers.specs.Reading.{answer_of}
-use Rattle.numbers.specs.declared.ReadNumber.{ReadNumber}
-use Rattle.numbers.specs.declared.ReadNumber.TheVariants.{Number, Refused}
-use Rattle.sheets.proofs.Setting.{setting_stops, setting_got, setting_there}
+use Rattle.std.specs.Prelude.{Ok, Err}
+use Rattle.answers.specs.declared.Refusal.{Refusal}
+use Rattle.answers.specs.Answers.{answer_from}
+use Rattle.sheets.specs.declared.SettingSize.{SettingSize}
+use Rattle.sheets.proofs.Setting.{setting_stops, setting_asked, setting_places, setting_there}
 use Rattle.cmd_show.specs.Show.{order_text, pictured, setting_text, show_call}
 
 -- ---- the lines
@@ -71,20 +71,19 @@ setting_put {a} n bits h g l P Q R =
 
 -- ---- the call
 
-module _
-    (sheet out before : List ℕ) {bits : List ℕ} {read : ReadNumber} (R : setting_outcome read bits ≡ read_setting sheet before)
-    {a : Answer}
-  where
-    pub show_refused : {q p : ℕ} → read ≡ Refused q p → a ≡ answer_of read → outcome a out ≡ show_call sheet out
-    unfolding show_call
-    show_refused t e = ends_refused (first_no (read_questions sheet 9217)) _ _ out (setting_stops sheet before R t) (e ∙ ap answer_of t) refl
+module _ (sheet out before : List ℕ) {bits : List ℕ} where
+  pub show_refused : (r : Refusal) → setting_outcome (Err r) bits ≡ read_setting sheet before → outcome (answer_from (Err r)) out ≡ show_call sheet out
+  unfolding show_call
+  show_refused r e = ends_refused (first_no (read_questions sheet 9217)) _ _ out (setting_stops sheet before r e) refl refl
 
-    pub show_done : {n w r : ℕ} {after : List ℕ} → read ≡ Number n w → Put out 0 (setting_text n (take w bits)) r after → a ≡ accepted r
-        → outcome a after ≡ show_call sheet out
-    unfolding show_call
-    show_done {n} {w} t P e =
-        let G = setting_got sheet before R t in
-        let same : setting_text n (take w bits) ≡ setting_text (places_in sheet) (setting_in sheet) =
-        rw (setting_there sheet before R t, G.value) in
-        ends-accepted (first_no (read_questions sheet 9217)) _ _ out G.asked
-        (e ∙ ap accepted (put_length P ∙ ap length same)) (P.buffer ∙ ap (overlay out 0) same)
+  pub show_done :
+      {s : SettingSize} {r : ℕ} {after : List ℕ}
+      → setting_outcome (Ok s) bits ≡ read_setting sheet before
+      → Put out 0 (setting_text s.places (take s.switches bits)) r after
+      → outcome (answer_from (Ok r)) after ≡ show_call sheet out
+  unfolding show_call
+  show_done {s} e P =
+      let same : setting_text s.places (take s.switches bits) ≡ setting_text (places_in sheet) (setting_in sheet) =
+      rw (setting_there sheet before e, setting_places sheet before e) in
+      ends-accepted (first_no (read_questions sheet 9217)) _ _ out (setting_asked sheet before e)
+      (ap accepted (put_length P ∙ ap length same)) (P.buffer ∙ ap (overlay out 0) same)

@@ -1,9 +1,9 @@
 // What a sheet does, as text: what the program `show` does with what it read.
 #![tactic(auto)]
 
-ghost use Rattle.std.specs.Prelude.{◌≡◌, ◌++◌, ◌+◌, ◌*◌, ◌≤◌, length};
+ghost use Rattle.std.specs.Prelude.{◌≡◌, ℕ, ◌++◌, ◌+◌, ◌*◌, ◌≤◌, ◌<◌, length, slice_index};
+ghost use Rattle.answers.specs.Answers.{answer_from};
 ghost use Rattle.answers.specs.Outcomes.{outcome};
-ghost use Rattle.bits.specs.Bits.{Bits};
 ghost use Rattle.counts.specs.Counts.{W};
 ghost use Rattle.network.specs.Wiring.{paper};
 ghost use Rattle.network.specs.Blocks.{order_of};
@@ -11,53 +11,69 @@ ghost use Rattle.answers.specs.Buffers.{Put};
 ghost use Rattle.cmd_text.specs.Text.{text, decimal, line};
 ghost use Rattle.cmd_show.specs.Show.{spaced, order_text, pictured, setting_text, show_call};
 
-use answers::Answer;
-use numbers::ReadNumber;
+use answers::Refusal;
+use cmd_picture::Small;
 
-// The text over the front of out: 16,384 bytes are enough for each sheet.
-pub fn show_sheet(sheet: &[u8], out: &mut [u8; 16384]) -> Answer
-    ensures { outcome result out.new ≡ show_call sheet.now out.old }
-{
-    let mut bits = [0u8; counts::MOST_SWITCHES];
-    let read = sheet_reader::read_setting(sheet, &mut bits);
-    let ReadNumber::Number(n, w) = read else {
-        return numbers::answer(read);
-    };
-    answers::accept(put_setting(out, n, &bits[..w]))
+// The places of the largest network that a picture shows.
+const MOST_PICTURED: usize = 16;
+
+// A setting that was read from a sheet: a bit for each switch.
+#[derive(Clone, Copy)]
+struct Setting<'a> {
+    places: usize,
+    bits: &'a [u8],
+    ghost few: { places ≤ 1024 },
+    ghost short: { W places ≤ 9217 },
+    ghost long: { length bits.now ≡ W places },
+    ghost binary: { (i : ℕ) → slice_index bits.now i < 2 },
 }
 
-fn put_setting(out: &mut [u8], n: usize, bits: &[u8]) -> usize
-    requires { (n ≤ 1024) × (W n ≤ 9217) × (length bits.now ≡ W n) × Bits bits.now × (16384 ≤ length out.old) }
-    ensures { Put out.old 0 (setting_text n bits.now) result out.new }
+/// The text over the front of out: 16,384 bytes are enough for each sheet.
+pub fn show_sheet(sheet: &[u8], out: &mut [u8; 16384]) -> Result<usize, Refusal>
+    ensures { outcome (answer_from result) out.new ≡ show_call sheet.now out.old }
 {
-    let a = cmd_text::put_number(out, 0, b"places ", n);
-    let b = cmd_text::put_setting(out, a, bits);
-    put_rest(out, b, n, bits)
+    let mut bits = [0u8; counts::MOST_SWITCHES];
+    let size = sheet_reader::read_setting(sheet, &mut bits)?;
+    let setting = Setting {
+        places: size.places,
+        bits: &bits[..size.switches],
+    };
+    Ok(put_setting(out, &setting))
+}
+
+fn put_setting(out: &mut [u8], setting: &Setting<'_>) -> usize
+    requires { 16384 ≤ length out.old }
+    ensures { Put out.old 0 (setting_text setting.now.places setting.now.bits.now) result out.new }
+{
+    let a = cmd_text::put_number(out, 0, b"places ", setting.places);
+    let b = cmd_text::put_setting(out, a, setting.bits);
+    put_rest(out, b, setting)
 }
 
 // The order and the picture: 6,152 and 952 bytes are enough.
-fn put_rest(out: &mut [u8], at: usize, n: usize, bits: &[u8]) -> usize
-    requires { (n ≤ 1024) × (W n ≤ 9217) × (length bits.now ≡ W n) × Bits bits.now × (at + 7104 ≤ length out.old) }
-    ensures { Put out.old at (line "order" (order_text (order_of paper n bits.now))
-        ++ pictured n bits.now) result out.new }
+fn put_rest(out: &mut [u8], at: usize, setting: &Setting<'_>) -> usize
+    requires { at + 7104 ≤ length out.old }
+    ensures { Put out.old at (line "order" (order_text (order_of paper setting.now.places setting.now.bits.now))
+        ++ pictured setting.now.places setting.now.bits.now) result out.new }
 {
     let mut order = [0u16; 1024];
-    setting_order::order_of_setting(n, bits, &mut order);
-    let a = put_order(out, at, &order[..n]);
-    put_pictured(out, a, n, bits)
+    setting_order::order_of_setting(setting.places, setting.bits, &mut order);
+    let a = put_order(out, at, &order[..setting.places]);
+    put_pictured(out, a, setting)
 }
 
-fn put_pictured(out: &mut [u8], at: usize, n: usize, bits: &[u8]) -> usize
-    requires { (length bits.now ≡ W n) × Bits bits.now × (at + 952 ≤ length out.old) }
-    ensures { Put out.old at (pictured n bits.now) result out.new }
+fn put_pictured(out: &mut [u8], at: usize, setting: &Setting<'_>) -> usize
+    requires { at + 952 ≤ length out.old }
+    ensures { Put out.old at (pictured setting.now.places setting.now.bits.now) result out.new }
 {
-    if n < 2 {
+    if setting.places < 2 || MOST_PICTURED < setting.places {
         return at;
     }
-    if 16 < n {
-        return at;
-    }
-    cmd_picture::put_picture(out, at, n, bits)
+    let small = Small {
+        places: setting.places,
+        bits: setting.bits,
+    };
+    cmd_picture::put_picture(out, at, &small)
 }
 
 // The line of an order: an entry takes six bytes at most.
@@ -76,14 +92,12 @@ fn put_order_text(out: &mut [u8], at: usize, order: &[u16]) -> usize
     ensures { Put out.old at (order_text order.now) result out.new
         × (result ≤ at + 2 + 6 * length order.now) }
 {
-    if order.len() == 0 {
+    if order.is_empty() {
         return cmd_text::put_text(out, at, b" -");
     }
     let mut end = at;
-    let mut j = 0;
-    while j < order.len() {
-        end = put_entry(out, end, order[j]);
-        j += 1;
+    for entry in order {
+        end = put_entry(out, end, *entry);
     }
     end
 }
@@ -93,5 +107,5 @@ fn put_entry(out: &mut [u8], at: usize, v: u16) -> usize
     ensures { Put out.old at (text " " ++ decimal v) result out.new × (result ≤ at + 6) }
 {
     let a = cmd_text::put_text(out, at, b" ");
-    cmd_text::put_decimal(out, a, v as usize)
+    cmd_text::put_decimal(out, a, usize::from(v))
 }

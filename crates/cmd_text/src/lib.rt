@@ -1,6 +1,7 @@
 // The lines that the programs print, put into a buffer. Each function puts bytes at a place of out, or at its front, and
 // answers the place after them; each `requires` room for them. They are public for the crates of the programs' texts, which
-// know how long a text gets.
+// know how long a text gets. (out, at) stay two parameters: a writer that held both would have to say in each contract besides
+// that it still holds the buffer that it was lent.
 #![tactic(auto)]
 
 ghost use Rattle.std.specs.Prelude.{◌≡◌, ◌++◌, ◌+◌, ◌≤◌, length};

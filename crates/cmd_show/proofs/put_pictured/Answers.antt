@@ -5,16 +5,20 @@ use Rattle.answers.proofs.Putting.{put_none}
 use Rattle.cmd_picture.proofs.Logged.{picture-length}
 use Rattle.cmd_show.proofs.Spacing.{few_places, many_places, some_places}
 use Rattle.cmd_show.proofs.put_pictured.Goals as goal
+use Rattle.cmd_show.proofs.put_pictured.Goals.{then-setting-lt2-via-then-setting-lt2, then-setting-lt2-via-else-setting-lt2+then-setting-gt-MOST_PICTURED}
 
-pub returns-then-n-lt2 : goal.returns-then-n-lt2
-returns-then-n-lt2 c = rw (few_places c.args.n c.args.bits.now c.if-n-lt2.true) (put_none _ _)
-
-pub returns-then-n-gt16 : goal.returns-then-n-gt16
-returns-then-n-gt16 c = rw (many_places c.args.n c.args.bits.now c.if-n-lt2.false c.if-n-gt16.true) (put_none _ _)
+pub returns-then-setting-lt2 : goal.returns-then-setting-lt2
+returns-then-setting-lt2 c = let n = c.args.setting.now.places in
+    let bits = c.args.setting.now.bits.now in
+    elim c.then-setting-lt2.branch [
+      | then-setting-lt2-via-then-setting-lt2 w ↦ rw (few_places n bits w.if-setting-lt2.true) (put_none _ _)
+      | then-setting-lt2-via-else-setting-lt2+then-setting-gt-MOST_PICTURED w ↦ rw (many_places n bits w.if-setting-lt2.false w.if-setting-gt-MOST_PICTURED.true) (put_none _ _)
+    ]
 
 pub put_picture-requires : goal.put_picture-requires
-put_picture-requires c =
-    (c.if-n-lt2.false, c.if-n-gt16.false, c.requires.0, c.requires.1, omega (arith, c.requires.2, picture-length c.args.n c.args.bits.now c.if-n-gt16.false c.requires.0))
+put_picture-requires c = let setting = c.args.setting.now in
+    omega (arith, c.requires, picture-length setting.places setting.bits.now c.if-setting-gt-MOST_PICTURED.false setting.long)
 
 pub returns : goal.returns
-returns c = rw (some_places c.args.n c.args.bits.now c.if-n-lt2.false c.if-n-gt16.false) c.put_picture.ensures
+returns c = let setting = c.args.setting.now in
+    rw (some_places setting.places setting.bits.now c.if-setting-lt2.false c.if-setting-gt-MOST_PICTURED.false) c.put_picture.ensures
