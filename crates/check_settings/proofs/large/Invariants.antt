@@ -1,12 +1,7 @@
--- `check_settings::large` meets its contract.
+-- `check_settings::large` is safe: v stays below 1,025.
 -- Assumes nothing.
-use mathlib.Core.Path.{◌≡◌}
-use lib.ListN.{length}
-use Prim.Native.Nat.{◌+◌, ◌*◌, ◌-◌, ◌≤◌}
+use Rattle.std.proofs.Common.{◌<◌}
 use Rattle.check_settings.proofs.large.Given as goal
 
-abbrev pub invariant-loop-i : goal.invariant-loop-i
-invariant-loop-i l = (length l.input ≡ length l.initial.input) × (1 ≤ l.at) × (l.at ≤ 2 + 2 * l.i) × (l.v ≤ 1024) × (l.i ≤ 1024)
-
-abbrev pub decreases-loop-i : goal.decreases-loop-i
-decreases-loop-i l = 1024 - l.i
+abbrev pub invariant-loop : goal.invariant-loop
+invariant-loop l = l.v < 1025
