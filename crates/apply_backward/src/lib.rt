@@ -7,6 +7,8 @@ ghost use Rattle.counts.specs.Counts.{W};
 ghost use Rattle.wirings.specs.Nets.{net_of, Inside};
 ghost use Rattle.apply_layers.specs.Ran.{blocks_in, Lent, Ran, back_from, switches_of};
 
+use apply_layers::Backward;
+
 // The network of m places that lie `apart` from each other, whatever its wiring, on the blocks from its first place o on, its entries
 // from number e on: output switches, bottom, top, input switches, each layer last to first. Returns the number of the entry after its
 // last. Public for the crate `apply` only, whose calls have asked their questions before: so it `requires` what they have settled.
@@ -33,7 +35,7 @@ pub fn run_back(
     let step = t.step(apart);
     let gap = t.gap(k, apart);
     if m == 2 {
-        apply_pairs::pair_back(blocks, width, gap, o, bits, log, e);
+        apply_pairs::pair::<Backward>(blocks, width, gap, o, bits, log, e);
         return e + 1;
     }
     let h = m - k;
@@ -41,9 +43,9 @@ pub fn run_back(
     let end = (inputs * step + 1) * width; // behind the top's last block
     let cut = gap * width; // the bottom's first
     let at = o + gap;
-    apply_widths::layer_back(blocks, width, step, gap, h, o, bits, log, e);
+    apply_widths::layer::<Backward>(blocks, width, step, gap, h, o, bits, log, e);
     let bottom = run_back(&mut blocks[cut..], width, t, h, at, step, bits, log, e + h);
     let top = run_back(&mut blocks[..end], width, t, k, o, step, bits, log, bottom);
-    apply_widths::layer_back(blocks, width, step, gap, inputs, o, bits, log, top);
+    apply_widths::layer::<Backward>(blocks, width, step, gap, inputs, o, bits, log, top);
     top + inputs
 }

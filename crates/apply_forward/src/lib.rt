@@ -7,6 +7,8 @@ ghost use Rattle.counts.specs.Counts.{W};
 ghost use Rattle.wirings.specs.Nets.{net_of, Inside};
 ghost use Rattle.apply_layers.specs.Ran.{blocks_in, Lent, Ran, switches_of};
 
+use apply_layers::Forward;
+
 // The network of m places that lie `apart` from each other, whatever its wiring, on the blocks from its first place o on, its entries
 // from number e on: input switches, top, bottom, output switches. The blocks of a half may lie between those of the other, so the two
 // parts that are lent may overlap. Returns the number of the entry after its last. Public for the crate `apply` only, whose calls have
@@ -33,7 +35,7 @@ pub fn run(
     let step = t.step(apart);
     let gap = t.gap(k, apart);
     if m == 2 {
-        apply_pairs::pair(blocks, width, gap, o, bits, log, e);
+        apply_pairs::pair::<Forward>(blocks, width, gap, o, bits, log, e);
         return e + 1;
     }
     let h = m - k;
@@ -42,9 +44,9 @@ pub fn run(
     let cut = gap * width; // the bottom's first
     let at = o + gap;
     let next = e + inputs;
-    apply_widths::layer(blocks, width, step, gap, inputs, o, bits, log, e);
+    apply_widths::layer::<Forward>(blocks, width, step, gap, inputs, o, bits, log, e);
     let top = run(&mut blocks[..end], width, t, k, o, step, bits, log, next);
     let bottom = run(&mut blocks[cut..], width, t, h, at, step, bits, log, top);
-    apply_widths::layer(blocks, width, step, gap, h, o, bits, log, bottom);
+    apply_widths::layer::<Forward>(blocks, width, step, gap, h, o, bits, log, bottom);
     bottom + h
 }

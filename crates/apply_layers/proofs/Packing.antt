@@ -1,6 +1,9 @@
 -- The entries of a layer's switches as numbers: evenly apart.
 -- Assumes nothing.
-use mathlib.Core.Path.{◌≡◌}
+use mathlib.Core.Path.{◌≡◌, ◌∙◌}
+use mathlib.Core.List.{List}
+use lib.ListN.{get_or, take, drop}
+use Rattle.std.proofs.lemmas.List.{get_or-take, get_or-drop}
 use Prim.Native.Nat.{ℕ, suc, ◌+◌, ◌-◌, ◌*◌, ◌^◌, ◌≤◌, ◌<◌}
 use native.Mathlib.Nat.{suc-mul}
 use native.Mathlib.Numerals.{add-one}
@@ -14,6 +17,10 @@ at_switch step gap o b i = packed 7 (o + i * step) (o + (i * step + gap)) (b + i
 -- how far it is from one to the next
 abbrev pub apart : ℕ → ℕ
 apart step = packed 0 step step 1
+
+-- a bit of those from `at` on
+pub bit-under : (at k i : ℕ) (bits : List ℕ) → i < k → get_or (take k (drop at bits)) i 0 ≡ get_or bits (at + i) 0
+bit-under at k i bits h = get_or-take k (drop at bits) i 0 h ∙ get_or-drop at bits i 0
 
 module _ (step gap o b : ℕ) where
   pub switch-first : (x : ℕ) → x ≡ packed 7 o (o + gap) b → x ≡ at_switch step gap o b 0

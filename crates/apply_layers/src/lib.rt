@@ -1,83 +1,112 @@
 // A layer of switches on lent blocks, first to last and last to first, each switch with its log entry. The bits and the bytes of
-// the blocks are secret: no branch and no index depends on them. Public for the crate `apply_widths` only, whose callers have
-// asked their questions before: so a layer `requires` what they have settled.
+// the blocks are secret: no branch and no index depends on them. Public for the crates `apply_widths` and `apply_pairs` only, whose
+// callers have asked their questions before: so a layer `requires` what they have settled.
 #![tactic(auto)]
 
-ghost use Rattle.std.specs.Prelude.{◌≡◌, reverse, ◌+◌, ◌%◌};
+ghost use Rattle.std.specs.Prelude.{◌≡◌, ℕ, List, reverse, ◌+◌, ◌%◌};
+ghost use Rattle.network.specs.Log.{Entry};
 ghost use Rattle.apply_layers.specs.Ran.{blocks_in, Lent, Pairs, Ran, back_from, layer_of};
 
-// The first c switches of a layer, first to last, on the blocks from place o on: switch i on the block i steps from the first and on
-// the one a gap further, under bit e + i, logged as entry e + i. Of each block `whole` bytes go in parts of 32, and the `rest`
-// behind them.
-pub fn in_parts(
-    blocks: &mut [u8],
-    width: usize,
-    whole: usize,
-    rest: usize,
-    step: usize,
-    gap: usize,
-    c: usize,
-    o: usize,
-    bits: &[u8],
-    log: &mut [u16],
-    e: usize,
-)
-    requires { Lent width o c e blocks.old bits.now log.old × Pairs (blocks_in width blocks.old) step gap c
-        × (width ≡ whole + rest) × (whole % 32 ≡ 0) }
-    ensures { Ran width bits.now (layer_of step gap e c) o e blocks.old log.old
-        blocks.new log.new }
-{
-    let stride = step * width;
-    let across = gap * width;
-    let next = entry_log::packed_apart(step, step, 1); // how far apart two switches' entries are
-    let mut x = entry_log::packed(entry_log::Kind::Exchange, o, o + gap, e);
-    let mut i = 0;
-    while i < c {
-        let s = bits[e + i];
-        let a = i * stride; // the first byte of the lower block
-        exchange_blocks::exchange_whole(blocks, whole, a, across, s);
-        exchange_blocks::exchange_rest(blocks, rest, a + whole, across, s);
-        entry_log::write_packed(log, e + i, x);
-        x += next;
-        i += 1;
+use entry_log::Kind;
+
+// Which way a layer's switches are run: by a type, so that the loop is compiled anew for each. The loops differ in where they begin and
+// which way they count; as one loop over numbers the return took a tenth more instructions in small networks.
+pub trait Direction {
+    // what is run of a layer: of the bits, its step and gap, the number of its first entry, and how many switches it has
+    ghost entries: { List ℕ → ℕ → ℕ → ℕ → ℕ → List Entry };
+
+    // The first c switches of a layer on the blocks from place o on: switch i on the block i steps from the first and on the one a gap
+    // further, its entries from number e on. Of each block `whole` bytes go in parts of 32, and the `rest` behind them. All are
+    // numbers of their own, since the networks go down the recursion by numbers, and most are constants where the loop is compiled.
+    fn in_parts(
+        blocks: &mut [u8],
+        width: usize,
+        whole: usize,
+        rest: usize,
+        step: usize,
+        gap: usize,
+        c: usize,
+        o: usize,
+        bits: &[u8],
+        log: &mut [u16],
+        e: usize,
+    )
+        requires { Lent width o c e blocks.old bits.now log.old × Pairs (blocks_in width blocks.old) step gap c
+            × (width ≡ whole + rest) × (whole % 32 ≡ 0) }
+        ensures { Ran width bits.now (entries bits.now step gap e c) o e blocks.old log.old
+            blocks.new log.new };
+}
+
+// First to last: switch i under bit e + i, logged as entry e + i.
+pub struct Forward {}
+
+impl Direction for Forward {
+    ghost entries = { λ bits step gap e c. layer_of step gap e c };
+
+    #[inline(always)]
+    fn in_parts(
+        blocks: &mut [u8],
+        width: usize,
+        whole: usize,
+        rest: usize,
+        step: usize,
+        gap: usize,
+        c: usize,
+        o: usize,
+        bits: &[u8],
+        log: &mut [u16],
+        e: usize,
+    ) {
+        let stride = step * width;
+        let across = gap * width;
+        let next = entry_log::packed_apart(step, step, 1); // how far apart two switches' entries are
+        let mut x = entry_log::packed(Kind::Exchange, o, o + gap, e);
+        for i in 0..c {
+            let s = bits[e..][i]; // so, and not bits[e + i], it takes a register less
+            let a = i * stride; // the first byte of the lower block
+            exchange_blocks::exchange_whole(blocks, whole, a, across, s);
+            exchange_blocks::exchange_rest(blocks, rest, a + whole, across, s);
+            entry_log::write_packed(log, e + i, x);
+            x += next;
+        }
     }
 }
 
-// The same switches, last to first, as the return does them: entry e has the bit that is as far from the last as e is from 0.
-pub fn in_parts_back(
-    blocks: &mut [u8],
-    width: usize,
-    whole: usize,
-    rest: usize,
-    step: usize,
-    gap: usize,
-    c: usize,
-    o: usize,
-    bits: &[u8],
-    log: &mut [u16],
-    e: usize,
-)
-    requires { Lent width o c e blocks.old bits.now log.old × Pairs (blocks_in width blocks.old) step gap c
-        × (width ≡ whole + rest) × (whole % 32 ≡ 0) }
-    ensures { Ran width bits.now (reverse (layer_of step gap (back_from bits.now e c) c)) o e
-        blocks.old log.old blocks.new log.new }
-{
-    let stride = step * width;
-    let across = gap * width;
-    let first = bits.len() - (e + c);
-    let past = c * step; // a step past the last switch's lower place
-    let next = entry_log::packed_apart(step, step, 1);
-    let mut x = entry_log::packed(entry_log::Kind::Exchange, o + past, o + (past + gap), first + c);
-    let mut i = c;
-    let mut to = e;
-    while 0 < i {
-        i -= 1;
-        x -= next;
-        let s = bits[first + i];
-        let a = i * stride;
-        exchange_blocks::exchange_whole(blocks, whole, a, across, s);
-        exchange_blocks::exchange_rest(blocks, rest, a + whole, across, s);
-        entry_log::write_packed(log, to, x);
-        to += 1;
+// Last to first, as the return runs them: entry e has the bit that is as far from the last as e is from 0.
+pub struct Backward {}
+
+impl Direction for Backward {
+    ghost entries = { λ bits step gap e c. reverse (layer_of step gap (back_from bits e c) c) };
+
+    #[inline(always)]
+    fn in_parts(
+        blocks: &mut [u8],
+        width: usize,
+        whole: usize,
+        rest: usize,
+        step: usize,
+        gap: usize,
+        c: usize,
+        o: usize,
+        bits: &[u8],
+        log: &mut [u16],
+        e: usize,
+    ) {
+        let stride = step * width;
+        let across = gap * width;
+        let first = bits.len() - (e + c);
+        let past = c * step; // a step past the last switch's lower place
+        let next = entry_log::packed_apart(step, step, 1);
+        let mut x = entry_log::packed(Kind::Exchange, o + past, o + (past + gap), first + c);
+        let mut to = e;
+        for i in (0..c).rev() {
+            x -= next;
+            let s = bits[first..][i];
+            let a = i * stride;
+            exchange_blocks::exchange_whole(blocks, whole, a, across, s);
+            exchange_blocks::exchange_rest(blocks, rest, a + whole, across, s);
+            entry_log::write_packed(log, to, x);
+            to += 1;
+        }
     }
 }

@@ -23,14 +23,14 @@ pub gap-gap-requires : goal.gap-gap-requires
 gap-gap-requires t c = let p = c.requires in
     omega (arith, gap_inside (inside_all p.0 p.1) c.if-m-lt2.false)
 
-pub pair_back-requires : goal.pair_back-requires
-pair_back-requires t c = let H = halved c.requires c.if-m-lt2.false c.step-step.ensures c.gap-gap.ensures in
+pub pair-requires : goal.pair-requires
+pair-requires t c = let H = halved c.requires c.if-m-lt2.false c.step-step.ensures c.gap-gap.ensures in
     for_pair H c.if-m-eq2.true
 
 pub returns-then-m-eq2 : goal.returns-then-m-eq2
 returns-then-m-eq2 t c = let a = c.args in
     let H = halved c.requires c.if-m-lt2.false c.step-step.ensures c.gap-gap.ensures in
-    pair_back H.spaced a.width a.o a.e a.bits.now c.if-m-eq2.true c.pair_back.ensures
+    pair_back H.spaced a.width a.o a.e a.bits.now c.if-m-eq2.true c.pair.ensures
 
 pub overflow_mul-end : goal.overflow_mul-end
 overflow_mul-end t c = let H = halved c.requires c.if-m-lt2.false c.step-step.ensures c.gap-gap.ensures in
@@ -52,43 +52,43 @@ pub overflow_add-at : goal.overflow_add-at
 overflow_add-at t c = let H = halved c.requires c.if-m-lt2.false c.step-step.ensures c.gap-gap.ensures in
     omega (arith, starts H)
 
-pub layer_back-requires : goal.layer_back-requires
-layer_back-requires t c = let H = halved c.requires c.if-m-lt2.false c.step-step.ensures c.gap-gap.ensures in
+pub layer-requires : goal.layer-requires
+layer-requires t c = let H = halved c.requires c.if-m-lt2.false c.step-step.ensures c.gap-gap.ensures in
     for_layer H (same _ _) (omega arith) (omega arith) (omega (arith, H.sizes.count))
 
 pub slice_bounds-run_back-count : goal.slice_bounds-run_back-count
 slice_bounds-run_back-count t c = let H = halved c.requires c.if-m-lt2.false c.step-step.ensures c.gap-gap.ensures in
-    bottom_fits H (lengths c.layer_back.auto.blocks c.layer_back.auto.log)
+    bottom_fits H (lengths c.layer.auto.blocks c.layer.auto.log)
 
 pub slice_bounds-run_back-start : goal.slice_bounds-run_back-start
 slice_bounds-run_back-start t c = let H = halved c.requires c.if-m-lt2.false c.step-step.ensures c.gap-gap.ensures in
-    bottom_fits H (lengths c.layer_back.auto.blocks c.layer_back.auto.log)
+    bottom_fits H (lengths c.layer.auto.blocks c.layer.auto.log)
 
 pub run_back-bottom-requires : goal.run_back-bottom-requires
 run_back-bottom-requires t c = let H = halved c.requires c.if-m-lt2.false c.step-step.ensures c.gap-gap.ensures in
-    (omega (arith, c.decreases), for_bottom H (lengths c.layer_back.auto.blocks c.layer_back.auto.log) (omega (arith, H.sizes.count)))
+    (omega (arith, c.decreases), for_bottom H (lengths c.layer.auto.blocks c.layer.auto.log) (omega (arith, H.sizes.count)))
 
 pub slice_bounds-run_back-end-2 : goal.slice_bounds-run_back-end-2
 slice_bounds-run_back-end-2 t c = let H = halved c.requires c.if-m-lt2.false c.step-step.ensures c.gap-gap.ensures in
-    let k1 = lengths c.layer_back.auto.blocks c.layer_back.auto.log in
+    let k1 = lengths c.layer.auto.blocks c.layer.auto.log in
     let k2 = bottom_kept H k1 c.run_back-bottom.new.blocks c.run_back-bottom.auto.blocks c.run_back-bottom.auto.log in
     top_fits H (same_then k1 k2)
 
 pub slice_bounds-run_back-end-3 : goal.slice_bounds-run_back-end-3
 slice_bounds-run_back-end-3 t c = let H = halved c.requires c.if-m-lt2.false c.step-step.ensures c.gap-gap.ensures in
-    let k1 = lengths c.layer_back.auto.blocks c.layer_back.auto.log in
+    let k1 = lengths c.layer.auto.blocks c.layer.auto.log in
     let k2 = bottom_kept H k1 c.run_back-bottom.new.blocks c.run_back-bottom.auto.blocks c.run_back-bottom.auto.log in
     sym (top_long H (same_then k1 k2))
 
 pub run_back-top-requires : goal.run_back-top-requires
 run_back-top-requires t c = let H = halved c.requires c.if-m-lt2.false c.step-step.ensures c.gap-gap.ensures in
-    let k1 = lengths c.layer_back.auto.blocks c.layer_back.auto.log in
+    let k1 = lengths c.layer.auto.blocks c.layer.auto.log in
     let k2 = bottom_kept H k1 c.run_back-bottom.new.blocks c.run_back-bottom.auto.blocks c.run_back-bottom.auto.log in
     (omega (arith, c.decreases), for_top H (same_then k1 k2) (omega (arith, H.sizes.count, c.run_back-bottom.ensures.0)))
 
-pub layer_back-requires-2 : goal.layer_back-requires-2
-layer_back-requires-2 t c = let H = halved c.requires c.if-m-lt2.false c.step-step.ensures c.gap-gap.ensures in
-    let k1 = lengths c.layer_back.auto.blocks c.layer_back.auto.log in
+pub layer-requires-2 : goal.layer-requires-2
+layer-requires-2 t c = let H = halved c.requires c.if-m-lt2.false c.step-step.ensures c.gap-gap.ensures in
+    let k1 = lengths c.layer.auto.blocks c.layer.auto.log in
     let k2 = bottom_kept H k1 c.run_back-bottom.new.blocks c.run_back-bottom.auto.blocks c.run_back-bottom.auto.log in
     let k3 = top_kept H (same_then k1 k2) c.run_back-top.new.blocks c.run_back-top.auto.blocks c.run_back-top.auto.log in
     for_layer H (same_then (same_then k1 k2) k3) (omega arith) (omega arith)
@@ -105,14 +105,14 @@ returns t c = let a = c.args in
     let z = H.sizes in
     let far1 = c.run_back-bottom.ensures.0 in
     let far2 = c.run_back-top.ensures.0 in
-    let k1 = lengths c.layer_back.auto.blocks c.layer_back.auto.log in
+    let k1 = lengths c.layer.auto.blocks c.layer.auto.log in
     let k2 = bottom_kept H k1 c.run_back-bottom.new.blocks c.run_back-bottom.auto.blocks c.run_back-bottom.auto.log in
     let k3 = top_kept H (same_then k1 k2) c.run_back-top.new.blocks c.run_back-top.auto.blocks c.run_back-top.auto.log in (
       omega (arith, z.count, far1, far2),
       returned H.spaced z.two (halved_top H) (halved_bottom H) a.width a.o a.bits.now (omega (arith, z.count, z.room, far1, far2))
-          k1 k2 k3 z.enough refl far1 far2 c.layer_back.ensures
+          k1 k2 k3 z.enough refl far1 far2 c.layer.ensures
           (ran_bottom H k1 c.run_back-bottom.new.blocks c.run_back-bottom.ensures.1)
           (ran_top H (same_then k1 k2) c.run_back-top.new.blocks c.run_back-top.auto.blocks (below-reverse (top_below H _))
           c.run_back-top.ensures.1)
-          c.layer_back-2.ensures,
+          c.layer-2.ensures,
     )
