@@ -1,6 +1,6 @@
 #!/usr/bin/env python3
 """The three hand-kept lists of the exports against each other and the library: crates/capi/src/lib.rt (its structs:
-crates/capi_values), include/lomuveran.h, rust/src/ffi.rs, and the names that libcapi.a defines. Parameters are compared by type
+crates/capi_values and answers), include/lomuveran.h, rust/src/ffi.rs, and the names that libcapi.a defines. Parameters are compared by type
 and by name, so that no two of one type can change places.
 
   check_header.py ROOT LIBRARY
@@ -67,10 +67,10 @@ def fields(text, pattern):
 def main():
     root, library = sys.argv[1:]
     read = {name: open(f'{root}/{name}', encoding='utf-8').read()
-            for name in ('crates/capi/src/lib.rt', 'crates/capi_values/src/lib.rt', 'include/lomuveran.h', 'rust/src/ffi.rs')}
-    lib, values, header, ffi = read.values()
+            for name in ('crates/capi/src/lib.rt', 'crates/capi_values/src/lib.rt', 'crates/answers/src/lib.rt', 'include/lomuveran.h', 'rust/src/ffi.rs')}
+    lib, values, answers, header, ffi = read.values()
     calls = from_rust(lib, r'pub extern "C"')
-    structs = fields(values, r'#\[repr\(C\)\] #\[derive\(Clone, Copy\)\] pub struct (\w+) \{([^}]*)\}')
+    structs = fields(values + answers, r'#\[repr\(C\)\] #\[derive\([^)]*\)\] pub struct (\w+) \{([^}]*)\}')
     defined = subprocess.run(['nm', '--defined-only', '--extern-only', library], check=True, capture_output=True, text=True).stdout
     wrong = []
     compared = 0
