@@ -4,72 +4,46 @@
 
 mod plain;
 
-ghost use Rattle.std.specs.Prelude.{◌≤◌, length};
-
-use gauges::{Figures, GaugeReport};
+use gauges::Figures;
+use plain::Drawing;
+use std::alloc::{AllocError, Global};
+use std::io;
 use tally::Tally;
 
 // ---- reports
 
-// Whether a report has the number of a question, or 0, at place 0, and these figures.
-fn reports(r: GaugeReport, number: usize, f: Figures) -> bool {
-    let a = r.answer;
-    let g = r.figures;
-    tally::same_answer(a, answers::refuse(number, 0))
-        & (g.count == f.count)
-        & (g.least == f.least)
-        & (g.greatest == f.greatest)
-        & (g.sum == f.sum)
-        & (g.mean == f.mean)
-        & (g.remainder == f.remainder)
-}
-
-fn none() -> Figures {
-    Figures {
-        count: 0,
-        least: 0,
-        greatest: 0,
-        sum: 0,
-        mean: 0,
-        remainder: 0,
-    }
-}
+const NO_FIGURES: Figures = Figures {
+    count: 0,
+    least: 0,
+    greatest: 0,
+    sum: 0,
+    mean: 0,
+    remainder: 0,
+};
 
 // Every gauge of n blocks, and one that no block has.
-fn compare(before: Tally, n: usize, blocks: &[u8], keys: &[u64; 1024]) -> Tally
-    requires { n ≤ 1024 }
-{
+fn compare(tally: &mut Tally, blocks: &[u8], keys: &[u64]) {
+    let n = keys.len();
     let absent = gauges::gauge_report(n, 6, blocks, 512);
-    let mut t = tally::tallied(before, reports(absent, 0, none()));
-    let mut i = 0;
-    while i < n {
-        let run = plain::run_from(keys, n, i);
-        let figures = run.figures;
-        let r = gauges::gauge_report(n, 6, blocks, run.gauge);
-        t = tally::tallied(t, reports(r, 0, figures));
-        i = run.end;
+    tally.count(absent == Ok(NO_FIGURES));
+    for run in keys.chunk_by(|a, b| plain::gauge_of(*a) == plain::gauge_of(*b)) {
+        let report = gauges::gauge_report(n, 6, blocks, plain::gauge_of(run[0]));
+        tally.count(report == Ok(plain::figures_of(run)));
     }
-    t
 }
 
-// Moves n blocks under drawn bits: the first move mixes them, the second returns them. Each must be accepted.
-fn moved(t: Tally, n: usize, blocks: &mut [u8], seed: u32, moves: usize) -> Tally
-    requires { n ≤ 1024 }
-{
-    if moves == 0 {
-        return t;
-    }
-    let drawn = plain::draw_bits(seed);
-    let w = counts::switches(n);
-    let bits = &drawn[..w];
+// Mixed under these bits. Each move must be accepted.
+fn mix(tally: &mut Tally, n: usize, blocks: &mut [u8], bits: &[u8]) {
     let mut log = [0u16; entry_log::MOST_MOVE_WORDS];
-    let a = apply::apply(n, 6, blocks, bits, &mut log);
-    let t1 = tally::tallied(t, a.number == 0);
-    if moves == 1 {
-        return t1;
-    }
-    let b = apply::apply_inverse(n, 6, blocks, bits, &mut log);
-    tally::tallied(t1, b.number == 0)
+    let mixed = apply::apply(n, 6, blocks, bits, &mut log);
+    tally.count(mixed.is_ok());
+}
+
+fn mix_and_return(tally: &mut Tally, n: usize, blocks: &mut [u8], bits: &[u8]) {
+    mix(tally, n, blocks, bits);
+    let mut log = [0u16; entry_log::MOST_MOVE_WORDS];
+    let returned = apply::apply_inverse(n, 6, blocks, bits, &mut log);
+    tally.count(returned.is_ok());
 }
 
 // ---- drawings: each of 6 sizes with each of 3 masks and each of 8 ranges
@@ -77,72 +51,86 @@ fn moved(t: Tally, n: usize, blocks: &mut [u8], seed: u32, moves: usize) -> Tall
 const SIZES: [usize; 6] = [0, 1, 2, 9, 1023, 1024];
 
 // Of the gauge numbers' bits: 1 gauge; 4 of them, two of which have each other's bytes; 256.
-const MASKS: [u32; 3] = [0, 257, 21845];
+const MASKS: [u16; 3] = [0, 257, 21845];
 
-// Of the readings: any, with sums just below 0 or above; -2^31; 2^31 - 1; either; -2 to 1; -1 to 2; -1.
-const LOWS: [u32; 8] = [
-    0, 1, 2147483648, 2147483647, 2147483647, 4294967294, 4294967295, 4294967295,
+// Of the readings, from the lowest on by bits of the spread.
+const RANGES: [(u32, u32); 8] = [
+    // Any, with sums just below 0 or above.
+    (0, 4294967295),
+    (1, 4294967295),
+    // -2^31; 2^31 - 1; either.
+    (2147483648, 0),
+    (2147483647, 0),
+    (2147483647, 1),
+    // -2 to 1; -1 to 2; -1.
+    (4294967294, 3),
+    (4294967295, 3),
+    (4294967295, 0),
 ];
 
-const SPREADS: [u32; 8] = [4294967295, 4294967295, 0, 0, 1, 3, 3, 0];
-
-// Drawing d. Answers how many blocks it has.
-fn draw(d: u32, blocks: &mut [u8], keys: &mut [u64; 1024]) -> usize
-    requires { 6144 ≤ length blocks.old }
-    ensures { result ≤ 1024 }
-{
+fn drawing(d: u32) -> Drawing {
     let i = d as usize;
-    let n = SIZES[i % 6] % 1025;
-    let k = i / 18 % 8;
-    plain::draw(n, MASKS[i / 6 % 3], LOWS[k], SPREADS[k], d, blocks, keys);
-    n
-}
-
-// Drawing c mod 144, moved under the bits of seed c.
-fn check(t: Tally, c: u32, moves: usize) -> Tally {
-    let mut blocks = [0u8; 6144];
-    let mut keys = [18446744073709551615u64; 1024];
-    let n = draw(c % 144, &mut blocks, &mut keys);
-    let filled = n * 6;
-    let t1 = moved(t, n, &mut blocks[..filled], c, moves);
-    compare(t1, n, &blocks[..filled], &keys)
-}
-
-// The drawings again and again, each time under other bits.
-fn check_all(count: u32, moves: usize) -> Tally {
-    let mut t = tally::none();
-    let mut c = 0;
-    while c < count {
-        t = check(t, c, moves);
-        c += 1;
+    let (low, spread) = RANGES[i / 18 % 8];
+    Drawing {
+        places: SIZES[i % 6],
+        mask: MASKS[i / 6 % 3],
+        low,
+        spread,
+        seed: d,
     }
-    t
 }
 
-// ---- refusals: the answer, and all six numbers 0
-
-fn refused(t: Tally, n: usize, width: usize, filled: usize, number: usize) -> Tally
-    requires { filled ≤ 6150 }
+// The drawings again and again, each time moved under other bits.
+fn check_all<F: Fn(&mut Tally, usize, &mut [u8], &[u8])>(
+    alloc: Global,
+    count: u32,
+    move_blocks: F,
+) -> Result<Tally, AllocError>
+    requires { F.IsAlwaysCallable move_blocks }
 {
+    let mut tally = Tally::new();
+    for c in 0..count {
+        let drawing = drawing(c % 144);
+        let n = drawing.places;
+        let drawn = plain::draw(alloc, drawing)?;
+        let bits = plain::draw_bits(alloc, c, counts::switches(n))?;
+        let mut blocks = plain::bytes_of(alloc, &drawn)?;
+        move_blocks(&mut tally, n, &mut blocks, &bits);
+        compare(&mut tally, &blocks, &plain::keys_of(alloc, &drawn)?);
+    }
+    Ok(tally)
+}
+
+// ---- refusals
+
+// How many blocks of which width, bytes that there are, and the question. Each gets a no alone, then with every later one.
+const REFUSED: [(usize, usize, usize, usize); 7] = [
+    (1025, 6, 6150, 1),
+    (1025, 7, 12, 1),
+    (2, 5, 10, 2),
+    (2, 7, 14, 2),
+    (2, 7, 12, 2),
+    (2, 6, 11, 3),
+    (1024, 6, 6150, 3),
+];
+
+fn check_refusals() -> Tally {
     let blocks = [1u8; 6150];
-    let r = gauges::gauge_report(n, width, &blocks[..filled], 257);
-    tally::tallied(t, reports(r, number, none()))
+    let mut tally = Tally::new();
+    for (n, width, filled, question) in REFUSED {
+        let report = gauges::gauge_report(n, width, &blocks[..filled], 257);
+        tally.count(tally::refused(report.map(|_| 0), question, 0));
+    }
+    tally
 }
 
-// Each question gets a no alone, then with every later one.
-fn refuse_all(t: Tally) -> Tally {
-    let t1 = refused(t, 1025, 6, 6150, 1);
-    let t2 = refused(t1, 1025, 7, 12, 1);
-    let t3 = refused(t2, 2, 5, 10, 2);
-    let t4 = refused(t3, 2, 7, 14, 2);
-    let t5 = refused(t4, 2, 7, 12, 2);
-    let t6 = refused(t5, 2, 6, 11, 3);
-    refused(t6, 1024, 6, 6150, 3)
-}
-
-fn main() {
-    tally::print(b"reports on 144 drawings", check_all(144, 0));
-    tally::print(b"after mixing under 3 settings", check_all(432, 1));
-    tally::print(b"after returning", check_all(432, 2));
-    tally::print(b"refusals", refuse_all(tally::none()));
+fn main(rt: HostRuntime) -> io::Result<()> {
+    let alloc = rt.alloc();
+    let at_home = check_all(alloc, 144, |_, _, _, _| ())?;
+    println!(rt; "reports on 144 drawings: {at_home}")?;
+    let mixed = check_all(alloc, 432, mix)?;
+    println!(rt; "after mixing under 3 settings: {mixed}")?;
+    let returned = check_all(alloc, 432, mix_and_return)?;
+    println!(rt; "after returning: {returned}")?;
+    println!(rt; "refusals: {}", check_refusals())
 }
