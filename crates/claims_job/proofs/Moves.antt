@@ -5,6 +5,7 @@ use mathlib.Core.List.{List}
 use Prim.Native.Nat.{ℕ, ◌*◌, ◌≤◌}
 use native.Mathlib.Omega.{arith}
 use lib.ListN.{length, take, replicate, length-replicate}
+use Rattle.std.specs.Prelude.{Ok}
 use Rattle.answers.specs.Answers.{accepted}
 use Rattle.answers.specs.Buffers.{overlay}
 use Rattle.answers.specs.Outcomes.{Outcome, outcome}
@@ -18,6 +19,7 @@ use Rattle.network.proofs.Paper.{paper_lawful}
 use Rattle.permutation.specs.Permutations.{IsPermutation}
 use Rattle.canonical.proofs.Carry.{canonical_order}
 use Rattle.sheets.specs.Sheet.{sheet}
+use Rattle.sheets.specs.declared.SettingSize.{SettingSize}
 use Rattle.sheets.specs.Calls.{setting_outcome, read_setting}
 use Rattle.wirings.specs.declared.Topology.TheVariants.{Paper}
 use Rattle.wirings.specs.Nets.{wiring_of}
@@ -29,7 +31,6 @@ use Rattle.claims.specs.Calls.{Call, mixing, returning, mix, return, outcome_of}
 use Rattle.claims.specs.Carrying.{Filled, RoomToMove, Demand2}
 use Rattle.claims.proofs.Carrying.{moved_fill, sheets_read_back}
 use Rattle.sheets.proofs.Setting.{setting_read}
-use Rattle.numbers.specs.declared.ReadNumber.TheVariants.{Number}
 use Rattle.claims_job.specs.Job.{Moves, shown}
 
 module _ (n : ℕ) (order : List ℕ) (small : n ≤ 1024) (D : Demand2 Paper n order) where
@@ -41,10 +42,13 @@ module _ (n : ℕ) (order : List ℕ) (small : n ≤ 1024) (D : Demand2 Paper n 
 
   -- with room for the longest setting and the longest log, as the programs have it
   module _ (buffer log : List ℕ) (room : length buffer ≡ 9217) (log_room : length log ≡ entry_words * 9217) where
-    read : setting_outcome (Number n (W n)) (overlay buffer 0 setting) ≡ read_setting made buffer
+    abbrev size : SettingSize
+    size = record { places = n; switches = W n }
+
+    read : setting_outcome (Ok size) (overlay buffer 0 setting) ≡ read_setting made buffer
     read =
-        setting_read made buffer room {read = accepted n}
-        (sym ((sheets_read_back n small).sheet_read setting buffer D.house_setting (omega (arith, room, switches_few n small)))) refl refl
+        setting_read made buffer room {n = n}
+        (sym ((sheets_read_back n small).sheet_read setting buffer D.house_setting (omega (arith, room, switches_few n small)))) refl
 
     front : take (W n) (overlay buffer 0 setting) ≡ setting
     front =
@@ -58,12 +62,12 @@ module _ (n : ℕ) (order : List ℕ) (small : n ≤ 1024) (D : Demand2 Paper n 
     mix_is : (width : ℕ) (blocks : List ℕ) → mix_call made width blocks ≡ unlogged (mix Paper n width blocks setting log)
     unfolding mix_call wiring_of
     mix_is width blocks =
-        sym (move_settles (moved paper) made width blocks buffer read refl (rw (front, log_room)))
+        sym (move_settles (moved paper) made width blocks buffer {s = size} read (rw (front, log_room)))
 
     unmix_is : (width : ℕ) (blocks : List ℕ) → unmix_call made width blocks ≡ unlogged (return Paper n width blocks setting log)
     unfolding unmix_call wiring_of
     unmix_is width blocks =
-        sym (move_settles (moved_back paper) made width blocks buffer read refl (rw (front, log_room)))
+        sym (move_settles (moved_back paper) made width blocks buffer {s = size} read (rw (front, log_room)))
 
     fits : RoomToMove n log
     fits = omega (arith, log_room, switches_few n small)

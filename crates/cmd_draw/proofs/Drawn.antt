@@ -1,19 +1,22 @@
 -- The call, return by return.
 -- Assumes nothing.
 use mathlib.Core.Path.{◌≡◌, refl, sym, ap, ◌∙◌}
-use mathlib.Core.Logic.{◌≢◌}
-use mathlib.Core.List.{List}
+use mathlib.Core.List.{List, ◌++◌}
 use Prim.Native.Nat.{ℕ, ◌+◌, ◌*◌, ◌/◌, ◌≤◌, ◌<◌, min}
+use native.Mathlib.Numerals.{add-one}
 use native.Mathlib.Omega.{arith}
 use native.Mathlib.Decide.{dec_lt}
 use borrow.Author.Tests.{le-leb, lt-leb}
-use lib.ListN.{length, get_or, take, replicate, get_or-eq_default}
-use Rattle.answers.specs.declared.Answer.{Answer}
-use Rattle.answers.specs.Answers.{accepted}
-use Rattle.answers.specs.Questions.{Verdict, all_yes, no_at, first_no}
+use lib.Seq.{take_at, take-suc-set}
+use lib.ListN.{length, get_or, take, set, replicate, get_or-eq_default}
+use Rattle.std.specs.Prelude.{Ok, Err}
+use Rattle.answers.specs.declared.Refusal.{Refusal}
+use Rattle.answers.specs.Answers.{accepted, answer_from}
+use Rattle.answers.specs.Questions.{first_no}
 use Rattle.answers.specs.Buffers.{overlay, Put}
 use Rattle.answers.specs.Outcomes.{answer_of, outcome}
 use Rattle.answers.proofs.Buffers.{overlay_taken}
+use Rattle.answers.proofs.Results.{err_no}
 use Rattle.answers.proofs.Outcomes.{ends_refused, ends-accepted}
 use Rattle.answers.proofs.Putting.{put_length}
 use Rattle.permutation.specs.Permutations.{IsPermutation, tabulate}
@@ -29,37 +32,45 @@ wanted n h = rw (bytes_for, le-leb n 1024 h)
 pub wanted_none : (n : ℕ) → 1024 < n → 0 ≡ bytes_for n
 wanted_none n h = rw (bytes_for, lt-leb n 1024 h)
 
--- the words that were gathered
-pub gathered : (n : ℕ) (bytes before : List ℕ) {most least count : ℕ} {words : List ℕ} → most ≡ bytes_for n
-    → least ≡ min most (length bytes) → count ≡ least / 4 → words ≡ overlay before 0 (tabulate (word_at bytes) count)
-    → take count words ≡ words_in n bytes
-gathered n bytes before {count = count} m l c e =
-    overlay_taken before e (length-tabulate (word_at bytes) count) ∙ rw (c, l, m)
+-- the words that were gathered, whatever stands behind them
+pub gathered : (n : ℕ) (bytes row rest : List ℕ) {most count m : ℕ} → most ≡ bytes_for n
+    → count ≡ min most (length bytes) / 4 → m ≡ count → row ≡ tabulate (word_at bytes) m
+    → take count (row ++ rest) ≡ words_in n bytes
+gathered n bytes row rest {count = count} b c e r =
+    take_at row rest count (ap length r ∙ length-tabulate (word_at bytes) _ ∙ e) ∙ r ∙ ap (tabulate (word_at bytes)) e ∙ rw (c, b)
+
+-- one word more
+pub gathered_more : (f : ℕ → ℕ) (words : List ℕ) (i x : ℕ) → i < length words → x ≡ f i → take i words ≡ tabulate f i
+    → take (i + 1) (set words i x) ≡ tabulate f (i + 1)
+unfolding tabulate
+gathered_more f words i x l e R = rw add-one (take-suc-set words i x l ∙ rw (R, e))
 
 -- what a shuffle into 1,024 entries came to
 abbrev before : List ℕ
 before = replicate 1024 0
 
-module _ (n : ℕ) (words : List ℕ) {order : List ℕ} {r : Drawn} (came : drawn r order ≡ shuffle_call n words (replicate 1024 0)) where
-  told : r.answer ≡ answer_of (first_no (draw_questions n words)) n
+module _ (n : ℕ) (words : List ℕ) where
+  told : {o : Shuffled} → o ≡ shuffle_call n words (replicate 1024 0) → o.answer ≡ answer_of (first_no (draw_questions n words)) n
   unfolding shuffle_call draw_questions
-  told = ap (λ (o : Shuffled). o.answer) came ∙ go (dec_lt 1024 n)
+  told came = ap (λ (o : Shuffled). o.answer) came ∙ go (dec_lt 1024 n)
     where
       go : Dec (1024 < n) → answer_of (first_no (shuffle_asks n words before)) n ≡ answer_of (first_no (draw_questions n words)) n
       go (yes l) = rw (lt-leb n 1024 l)
       go (no l) = rw (le-leb n 1024 (omega arith))
 
-  pub draw_refused : (out : List ℕ) → r.answer.number ≢ 0 → outcome r.answer out ≡ draw_from n words out
+  pub draw_refused : {order : List ℕ} (r : Refusal) → drawn (Err r) order ≡ shuffle_call n words (replicate 1024 0) → (out : List ℕ)
+      → outcome (answer_from (Err r)) out ≡ draw_from n words out
   unfolding draw_from
-  draw_refused out h = go (first_no (draw_questions n words)) refl
-    where
-      go : (v : Verdict) → first_no (draw_questions n words) ≡ v → outcome r.answer out ≡ draw_from n words out
-      go all_yes e = absurd (h (ap (λ (a : Answer). a.number) told ∙ ap (λ v. (answer_of v n).number) e))
-      go (no_at q p) e = ends_refused (first_no (draw_questions n words)) _ _ out e (told ∙ ap (λ v. answer_of v n) e) refl
+  draw_refused r came out =
+      ends_refused (first_no (draw_questions n words)) _ _ out
+      (err_no {A = Drawn} (λ (d : Drawn). d.count) r (first_no (draw_questions n words)) n (told came)) refl refl
 
-  module _ (h : r.answer.number ≡ 0) where
+  module _ {order : List ℕ} {d : Drawn} (came : drawn (Ok d) order ≡ shuffle_call n words (replicate 1024 0)) where
     A : Acceptable n words before
-    A = shuffle_accepts n words before (sym (ap (λ (o : Shuffled). o.answer.number) came) ∙ h)
+    A = shuffle_accepts n words before (sym (ap (λ (o : Shuffled). o.answer.number) came))
+
+    pub count_is : d.count ≡ n
+    count_is = ap (λ (o : Shuffled). o.answer.count) (came ∙ shuffle_accepted n words before A)
 
     permutation : IsPermutation n (order_from n words)
     permutation = order_permutation n words A.enough
@@ -81,9 +92,9 @@ module _ (n : ℕ) (words : List ℕ) {order : List ℕ} {r : Drawn} (came : dra
         go (yes l) = omega (arith, permutation.below i l, A.small)
         go (no l) = rw (get_or-eq_default (order_from n words) 0 {n = i} (omega (arith, permutation.whole))) (omega arith)
 
-    pub draw_done : (out : List ℕ) {a : Answer} {q : ℕ} {after : List ℕ} → Put out 0 (order_bytes (take n order)) q after → a ≡ accepted q
-        → outcome a after ≡ draw_from n words out
+    pub draw_done : (out : List ℕ) {q : ℕ} {after : List ℕ} → Put out 0 (order_bytes (take n order)) q after
+        → outcome (accepted q) after ≡ draw_from n words out
     unfolding draw_from draw_questions
-    draw_done out P t =
+    draw_done out P =
         ends-accepted (first_no (draw_questions n words)) _ _ out (rw (le-leb n 1024 A.small, A.enough))
-        (t ∙ ap accepted (put_length P) ∙ rw order_is) (P.buffer ∙ rw order_is)
+        (ap accepted (put_length P) ∙ rw order_is) (P.buffer ∙ rw order_is)

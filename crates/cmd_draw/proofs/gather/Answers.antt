@@ -1,27 +1,15 @@
 -- `cmd_draw::gather` meets its contract.
 -- Assumes nothing.
 use native.Mathlib.Omega.{arith}
+use mathlib.Core.Path.{refl}
 use Rattle.permutation.specs.Permutations.{tabulate}
-use Rattle.permutation.proofs.Tables.{length-tabulate, tabulate-at}
-use Rattle.answers.proofs.Putting.{over_starts, each_more, each-ends}
 use Rattle.cmd_draw.specs.Draw.{word_at}
+use Rattle.cmd_draw.proofs.Drawn.{gathered_more}
 use Rattle.cmd_draw.proofs.gather.Goals as goal
 
 pub loop-i-init : goal.loop-i-init
-loop-i-init c = over_starts _ _ _
-
-pub bounds-words-i : goal.bounds-words-i
-bounds-words-i c = omega (arith, c.loop-i.invariant.same)
+unfolding tabulate
+loop-i-init c = refl
 
 pub loop-i-preserved : goal.loop-i-preserved
-loop-i-preserved c = let f = word_at c.args.bytes.now in
-    let n = c.args.n in
-    each_more f (tabulate f n) n (length-tabulate f n) (tabulate-at f n) c.loop-i-test.true c.requires.1 c.word_at.ensures c.loop-i.invariant
-
-pub shape_of-words : goal.shape_of-words
-shape_of-words c = c.loop-i.invariant.same
-
-pub returns : goal.returns
-returns c = let f = word_at c.args.bytes.now in
-    let n = c.args.n in
-    each-ends f (tabulate f n) n (length-tabulate f n) (tabulate-at f n) c.loop-i-test.false c.loop-i.invariant
+loop-i-preserved c = gathered_more (word_at c.args.bytes.now) _ _ _ (omega arith) c.word_at.ensures c.loop-i.invariant
