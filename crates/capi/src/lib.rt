@@ -16,19 +16,21 @@ ghost use Rattle.wirings.specs.declared.Topology.TheVariants.{Paper, Neighbour};
 ghost use Rattle.numbers.specs.Numbers.{number_at};
 ghost use Rattle.records.specs.Records as records;
 ghost use Rattle.listed_order.specs.Calls.{ranked, ranked_call};
-ghost use Rattle.shuffle.specs.Shuffled.{drawn, shuffle_call};
-ghost use Rattle.capi_values.specs.Crossing.{answer_in, number_in, drawn_in, report_in, told_in, told, lending, record_in, lent, counted};
+ghost use Rattle.shuffle.specs.Shuffled.{shuffle_call};
+ghost use Rattle.capi_values.specs.Crossing.{number_in, drawn_in, report_in, told_in, told, lending, record_in, lent, counted};
 
-use capi_values::{CAnswer, CDrawn, CNumber, CRecord, CReport};
+use answers::{Answer, Reason, Refusal};
+use capi_values::{CDrawn, CNumber, CRecord, CReport};
 use records::Permutation;
+use wirings::Topology;
 
 // 01: set.
 #[unsafe(no_mangle)]
-pub extern "C" fn lomuveran_control_bits(order: &[u16], bits: &mut [u8], log: &mut [u16]) -> CAnswer
-    ensures { logged (answer_in result) bits.new log.new
+pub extern "C" fn lomuveran_control_bits(order: &[u16], bits: &mut [u8], log: &mut [u16]) -> Answer
+    ensures { logged result bits.new log.new
         ≡ set_call order.now bits.old log.old }
 {
-    capi_values::tell(control::control_bits(order, bits, log))
+    control::control_bits(order, bits, log).into()
 }
 
 // 01: mix.
@@ -39,11 +41,11 @@ pub extern "C" fn lomuveran_apply(
     blocks: &mut [u8],
     bits: &[u8],
     log: &mut [u16],
-) -> CAnswer
-    ensures { logged (answer_in result) blocks.new log.new
+) -> Answer
+    ensures { logged result blocks.new log.new
         ≡ apply_call n width blocks.old bits.now log.old }
 {
-    capi_values::tell(apply::apply(n, width, blocks, bits, log))
+    apply::apply(n, width, blocks, bits, log).into()
 }
 
 // 01: return.
@@ -54,19 +56,19 @@ pub extern "C" fn lomuveran_apply_inverse(
     blocks: &mut [u8],
     bits: &[u8],
     log: &mut [u16],
-) -> CAnswer
-    ensures { logged (answer_in result) blocks.new log.new
+) -> Answer
+    ensures { logged result blocks.new log.new
         ≡ inverse_call n width blocks.old bits.now log.old }
 {
-    capi_values::tell(apply::apply_inverse(n, width, blocks, bits, log))
+    apply::apply_inverse(n, width, blocks, bits, log).into()
 }
 
 // 01: draw; 02, F-5.
 #[unsafe(no_mangle)]
 pub extern "C" fn lomuveran_shuffle(n: usize, words: &[u32], out: &mut [u16]) -> CDrawn
-    ensures { drawn (drawn_in result) out.new ≡ shuffle_call n words.now out.old }
+    ensures { drawn_in result out.new ≡ shuffle_call n words.now out.old }
 {
-    capi_values::tell_drawn(shuffle::shuffle(n, words, out))
+    shuffle::shuffle(n, words, out).into()
 }
 
 // 02, F-3: the r-th order of n places, with its setting.
@@ -77,11 +79,11 @@ pub extern "C" fn lomuveran_ranked_order(
     order: &mut [u16],
     bits: &mut [u8],
     log: &mut [u16],
-) -> CAnswer
-    ensures { ranked (answer_in result) order.new bits.new log.new
+) -> Answer
+    ensures { ranked result order.new bits.new log.new
         ≡ ranked_call n r order.old bits.old log.old }
 {
-    capi_values::tell(listed_order::ranked_order(n, r, order, bits, log))
+    listed_order::ranked_order(n, r, order, bits, log).into()
 }
 
 // ---- the neighbour wiring (02, F-6): a call of its own for each, so that no number for a wiring must be asked about
@@ -92,11 +94,11 @@ pub extern "C" fn lomuveran_neighbour_control_bits(
     order: &[u16],
     bits: &mut [u8],
     log: &mut [u16],
-) -> CAnswer
-    ensures { logged (answer_in result) bits.new log.new
+) -> Answer
+    ensures { logged result bits.new log.new
         ≡ set_call_in neighbour order.now bits.old log.old }
 {
-    capi_values::tell(control::control_bits_in(wirings::Topology::Neighbour, order, bits, log))
+    control::control_bits_in(Topology::Neighbour, order, bits, log).into()
 }
 
 // Mix.
@@ -107,11 +109,11 @@ pub extern "C" fn lomuveran_neighbour_apply(
     blocks: &mut [u8],
     bits: &[u8],
     log: &mut [u16],
-) -> CAnswer
-    ensures { logged (answer_in result) blocks.new log.new
+) -> Answer
+    ensures { logged result blocks.new log.new
         ≡ apply_call_in neighbour n width blocks.old bits.now log.old }
 {
-    capi_values::tell(apply::apply_in(wirings::Topology::Neighbour, n, width, blocks, bits, log))
+    apply::apply_in(Topology::Neighbour, n, width, blocks, bits, log).into()
 }
 
 // Return.
@@ -122,52 +124,45 @@ pub extern "C" fn lomuveran_neighbour_apply_inverse(
     blocks: &mut [u8],
     bits: &[u8],
     log: &mut [u16],
-) -> CAnswer
-    ensures { logged (answer_in result) blocks.new log.new
+) -> Answer
+    ensures { logged result blocks.new log.new
         ≡ inverse_call_in neighbour n width blocks.old bits.now log.old }
 {
-    capi_values::tell(apply::apply_inverse_in(
-        wirings::Topology::Neighbour,
-        n,
-        width,
-        blocks,
-        bits,
-        log,
-    ))
+    apply::apply_inverse_in(Topology::Neighbour, n, width, blocks, bits, log).into()
 }
 
 // The converter, from the paper's wiring.
 #[unsafe(no_mangle)]
-pub extern "C" fn lomuveran_to_neighbour(n: usize, given: &[u8], out: &mut [u8]) -> CAnswer
-    ensures { outcome (answer_in result) out.new ≡ convert_call Paper n given.now out.old }
+pub extern "C" fn lomuveran_to_neighbour(n: usize, given: &[u8], out: &mut [u8]) -> Answer
+    ensures { outcome result out.new ≡ convert_call Paper n given.now out.old }
 {
-    capi_values::tell(convert::convert(wirings::Topology::Paper, n, given, out))
+    convert::convert(Topology::Paper, n, given, out).into()
 }
 
 // The converter, from the neighbour wiring.
 #[unsafe(no_mangle)]
-pub extern "C" fn lomuveran_to_paper(n: usize, given: &[u8], out: &mut [u8]) -> CAnswer
-    ensures { outcome (answer_in result) out.new ≡ convert_call Neighbour n given.now out.old }
+pub extern "C" fn lomuveran_to_paper(n: usize, given: &[u8], out: &mut [u8]) -> Answer
+    ensures { outcome result out.new ≡ convert_call Neighbour n given.now out.old }
 {
-    capi_values::tell(convert::convert(wirings::Topology::Neighbour, n, given, out))
+    convert::convert(Topology::Neighbour, n, given, out).into()
 }
 
 // ---- sheets
 
 // 01: write sheet.
 #[unsafe(no_mangle)]
-pub extern "C" fn lomuveran_write_sheet(n: usize, bits: &[u8], out: &mut [u8]) -> CAnswer
-    ensures { outcome (answer_in result) out.new ≡ write_sheet n bits.now out.old }
+pub extern "C" fn lomuveran_write_sheet(n: usize, bits: &[u8], out: &mut [u8]) -> Answer
+    ensures { outcome result out.new ≡ write_sheet n bits.now out.old }
 {
-    capi_values::tell(sheet_writer::write_sheet(n, bits, out))
+    sheet_writer::write_sheet(n, bits, out).into()
 }
 
 // 01: read sheet.
 #[unsafe(no_mangle)]
-pub extern "C" fn lomuveran_read_sheet(input: &[u8], bits: &mut [u8]) -> CAnswer
-    ensures { outcome (answer_in result) bits.new ≡ read_sheet input.now bits.old }
+pub extern "C" fn lomuveran_read_sheet(input: &[u8], bits: &mut [u8]) -> Answer
+    ensures { outcome result bits.new ≡ read_sheet input.now bits.old }
 {
-    capi_values::tell(sheet_reader::read_sheet(input, bits))
+    sheet_reader::read_sheet(input, bits).into()
 }
 
 // 01: the number reader.
@@ -175,7 +170,7 @@ pub extern "C" fn lomuveran_read_sheet(input: &[u8], bits: &mut [u8]) -> CAnswer
 pub extern "C" fn lomuveran_read_number(input: &[u8], at: usize) -> CNumber
     ensures { number_in result ≡ number_at input.now at }
 {
-    capi_values::tell_number(numbers::read_number(input, at))
+    numbers::read_number(input, at).into()
 }
 
 // ---- the chart
@@ -190,31 +185,31 @@ pub extern "C" fn lomuveran_gauge_report(
 ) -> CReport
     ensures { report_in result ≡ report_call n width blocks.now gauge }
 {
-    capi_values::tell_report(gauges::gauge_report(n, width, blocks, gauge))
+    gauges::gauge_report(n, width, blocks, gauge).into()
 }
 
 // ---- counts, for callers who must size their buffers: question 1, then the count
 
 // How many switches, so how many bits, n places have.
 #[unsafe(no_mangle)]
-pub extern "C" fn lomuveran_switches(n: usize) -> CAnswer
-    ensures { answer_in result ≡ counted W n }
+pub extern "C" fn lomuveran_switches(n: usize) -> Answer
+    ensures { result ≡ counted W n }
 {
     if counts::MOST_PLACES < n {
-        return capi_values::tell(answers::refuse(1, 0));
+        return Answer::from(Err(Refusal::of(Reason::Places)));
     }
-    capi_values::tell(answers::accept(counts::switches(n)))
+    Answer::from(Ok(counts::switches(n)))
 }
 
 // How many entries the setter logs for n places.
 #[unsafe(no_mangle)]
-pub extern "C" fn lomuveran_entries(n: usize) -> CAnswer
-    ensures { answer_in result ≡ counted E n }
+pub extern "C" fn lomuveran_entries(n: usize) -> Answer
+    ensures { result ≡ counted E n }
 {
     if counts::MOST_PLACES < n {
-        return capi_values::tell(answers::refuse(1, 0));
+        return Answer::from(Err(Refusal::of(Reason::Places)));
     }
-    capi_values::tell(answers::accept(counts::entries(n)))
+    Answer::from(Ok(counts::entries(n)))
 }
 
 // ---- permutations (01: open orders): the record is its entries as lent and the number of those that stay home (02, F-2); an
@@ -234,7 +229,7 @@ pub extern "C" fn lomuveran_permutation_identity(entries: &mut [u16]) -> CRecord
 pub extern "C" fn lomuveran_permutation_from_list(list: &[u16]) -> CRecord
     ensures { told_in result ≡ told (records.from_list_call list.now) }
 {
-    capi_values::tell_record(Permutation::from_list(list))
+    Permutation::from_list(list).into()
 }
 
 #[unsafe(no_mangle)]
@@ -280,8 +275,8 @@ pub extern "C" fn lomuveran_permutation_inverse(entries: &mut [u16], fixed: usiz
 
 // The number that the record carries, as the count. The entries are not looked at, only how many there are.
 #[unsafe(no_mangle)]
-pub extern "C" fn lomuveran_permutation_fixed_points(entries: &[u16], fixed: usize) -> CAnswer
-    ensures { answer_in result ≡ (records.fixed_points_call (record_in entries.now fixed)).answer }
+pub extern "C" fn lomuveran_permutation_fixed_points(entries: &[u16], fixed: usize) -> Answer
+    ensures { result ≡ (records.fixed_points_call (record_in entries.now fixed)).answer }
 {
-    capi_values::tell(records::fixed_points_of(entries.len(), fixed))
+    records::fixed_points_of(entries.len(), fixed).into()
 }

@@ -1,8 +1,8 @@
+-- `capi::lomuveran_neighbour_apply` meets its contract.
 -- Assumes nothing.
 use Rattle.wirings.specs.Nets.{wiring_of}
-use Rattle.capi_values.proofs.Crossing.{log_crosses}
 use Rattle.capi.proofs.lomuveran_neighbour_apply.Goals as goal
 
 pub returns : goal.returns
 unfolding wiring_of
-returns c = log_crosses c.tell.ensures c.apply_in.ensures
+returns c = rw c.into.ensures c.apply_in.ensures
