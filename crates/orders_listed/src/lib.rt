@@ -33,10 +33,8 @@ fn first_digit(n: usize, r: u16, f: u16) -> u16
     ensures { result ≡ r / f }
 {
     let mut d = 0;
-    let mut i = 1;
-    while i < n {
+    for i in 1..n {
         d += select::at_least(r, i as u16 * f);
-        i += 1;
     }
     d
 }
@@ -46,11 +44,8 @@ fn make_way(d: u16, order: &mut [u16])
     requires { (d < 1024) × Below 1024 order.old }
     ensures { order.new ≡ map (past d) order.old }
 {
-    let mut i = 0;
-    while i < order.len() {
-        let x = order[i];
-        order[i] = x + select::at_least(x, d);
-        i += 1;
+    for x in order.iter_mut() {
+        *x += select::at_least(*x, d);
     }
 }
 

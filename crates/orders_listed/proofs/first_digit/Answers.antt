@@ -10,31 +10,27 @@ use Rattle.orders_listed.proofs.Digits.{multiple_small, reached_more, reached_al
 use Rattle.orders_listed.proofs.first_digit.Goals as goal
 
 pub loop-i-init : goal.loop-i-init
-loop-i-init c = (omega arith, omega arith, omega arith)
+loop-i-init c = omega arith
 
 pub overflow_mul-i : goal.overflow_mul-i
-overflow_mul-i c = let l = c.loop-i in
-    omega (arith, multiple_small l.i c.args.f l.invariant.1 c.requires.1)
+overflow_mul-i c = omega (arith, multiple_small c.loop-i.i c.args.f (omega arith) c.requires.1)
 
 pub at_least-d-requires : goal.at_least-d-requires
-at_least-d-requires c = let i = c.loop-i.i in (
+at_least-d-requires c = (
   omega (arith, c.requires.2, multiple_small c.args.n c.args.f c.requires.0 c.requires.1),
-  omega (arith, multiple_small i c.args.f c.loop-i.invariant.1 c.requires.1),
+  omega (arith, multiple_small c.loop-i.i c.args.f (omega arith) c.requires.1),
 )
 
 pub overflow_add-d : goal.overflow_add-d
 overflow_add-d c = let a = c.args in
-    omega (arith, c.at_least-d.ensures, digit_small (not (ltb a.r (c.loop-i.i * a.f))), c.loop-i.invariant.2)
+    omega (arith, c.at_least-d.ensures, digit_small (not (ltb a.r (c.loop-i.i * a.f))), c.loop-i.invariant)
 
 pub loop-i-preserved : goal.loop-i-preserved
 loop-i-preserved c = let l = c.loop-i in
-    let f = some_factor c.args.r c.args.n c.args.f c.requires.2 in (
-      omega arith,
-      omega (arith, c.requires.0, c.loop-i-test.true),
-      rw (l.invariant.2, c.at_least-d.ensures) (reached_more c.args.r c.args.f l.i f l.invariant.0),
-    )
+    let f = some_factor c.args.r c.args.n c.args.f c.requires.2 in
+    rw (l.invariant, c.at_least-d.ensures) (reached_more c.args.r c.args.f l.i f (omega arith))
 
 pub returns : goal.returns
 returns c = let l = c.loop-i in
     let f = some_factor c.args.r c.args.n c.args.f c.requires.2 in
-    l.invariant.2 ∙ reached_all c.args.r c.args.f l.i f l.invariant.0 c.args.n c.loop-i-test.false c.requires.2
+    l.invariant ∙ reached_all c.args.r c.args.f l.i f (omega arith) c.args.n c.loop-i-test.false c.requires.2

@@ -1,12 +1,8 @@
 -- The multiples of f that are at most r, counted: at the end they are all that go into r.
 -- Assumes nothing.
 use mathlib.Core.Path.{◌≡◌}
-use Prim.Native.Nat.{◌-◌, ◌≤◌}
 use Rattle.orders_listed.proofs.Digits.{reached}
 use Rattle.orders_listed.proofs.first_digit.Given as goal
 
 abbrev pub invariant-loop-i : goal.invariant-loop-i
-invariant-loop-i l = (1 ≤ l.i) × (l.i ≤ 6) × (l.d ≡ reached l.r l.f l.i)
-
-abbrev pub decreases-loop-i : goal.decreases-loop-i
-decreases-loop-i l = l.n - l.i
+invariant-loop-i l = l.d ≡ reached l.r l.f l.i
