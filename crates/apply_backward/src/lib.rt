@@ -1,5 +1,7 @@
 // The network's switches on lent blocks, last to first, under control bits, with their log, by recursion on the halves: for
 // return. The bits and the bytes of the blocks are secret: no branch and no index depends on them.
+// A crate beside `apply_forward`, not one function over the direction: the layers and the halves change places here, so each of the four
+// calls would choose its numbers by it.
 #![tactic(auto)]
 
 ghost use Rattle.std.specs.Prelude.{◌≡◌, reverse, ◌+◌};

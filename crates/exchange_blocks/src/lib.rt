@@ -8,7 +8,7 @@ ghost use Rattle.exchange_words.specs.Bytes.{bytes_switched};
 
 // Exchanges 32 bytes from a on with those that lie `gap` further on where the bit s is 1: each byte gains or loses the masked
 // difference of the two. They go through arrays of their own: so the compiler need not ask whether the two parts overlap, and
-// takes 16 bytes at a time. (At 8 bytes and fewer it takes them one by one so, at four times the instructions: hence the numbers of
+// takes 16 bytes at a time. (At 8 bytes and fewer it takes them one by one so, at two to eight times the instructions: hence the numbers of
 // the crate `exchange_words`.)
 fn exchange32(blocks: &mut [u8], a: usize, gap: usize, s: u8)
     requires { (s < 2) × (32 ≤ gap) × (a + gap + 32 ≤ length blocks.old) }
