@@ -1,20 +1,29 @@
--- The streams: what was read, and what is written.
+-- What is written to the streams.
 -- Assumes nothing.
-use mathlib.Core.Path.{◌≡◌, ap, ◌∙◌}
+use mathlib.Core.Path.{◌≡◌, refl, ap, ◌∙◌}
 use mathlib.Core.List.{List, ◌++◌}
 use Prim.Native.Nat.{ℕ, ◌≤◌}
 use native.Mathlib.Omega.{arith}
 use lib.ListN.{length, drop, length-append}
-use Rattle.answers.specs.declared.Answer.{Answer}
+use Rattle.std.specs.Prelude.{Result, Ok, Err}
+use Rattle.std.specs.Result.{result_unwrap_or}
+use Rattle.answers.specs.declared.Refusal.{Refusal}
+use Rattle.answers.specs.Answers.{answer_from}
 use Rattle.answers.specs.Questions.{Verdict, all_yes, no_at}
 use Rattle.answers.specs.Outcomes.{Outcome, outcome, settled}
 use Rattle.answers.proofs.Buffers.{overlay-front}
 
+counted : (given : Result ℕ Refusal) → result_unwrap_or given 0 ≡ (answer_from given).count
+counted (Ok n) = refl
+counted (Err r) = refl
+
 -- what a call made over the front of its buffer is within it
-pub made_within : (v : Verdict) (words before : List ℕ) {a : Answer} {after : List ℕ}
-    → outcome a after ≡ settled v (length words) words before → a.count ≤ length after
-made_within all_yes words before {a} {after} e =
-    let n : a.count ≡ length words = ap (λ (o : Outcome). o.answer.count) e in
+pub made_within : (v : Verdict) (words before : List ℕ) (given : Result ℕ Refusal) {n : ℕ} {after : List ℕ}
+    → outcome (answer_from given) after ≡ settled v (length words) words before → n ≡ result_unwrap_or given 0 → n ≤ length after
+made_within all_yes words before given {n} {after} e r =
+    let c : (answer_from given).count ≡ length words = ap (λ (o : Outcome). o.answer.count) e in
     let b : after ≡ words ++ drop (length words) before = ap (λ (o : Outcome). o.buffer) e ∙ overlay-front before words in
-    omega (arith, n, ap length b, length-append words (drop (length words) before))
-made_within (no_at q p) words before {a} {after} e = let n : a.count ≡ 0 = ap (λ (o : Outcome). o.answer.count) e in omega (arith, n)
+    omega (arith, r ∙ counted given ∙ c, ap length b, length-append words (drop (length words) before))
+made_within (no_at q p) words before given {n} {after} e r =
+    let c : (answer_from given).count ≡ 0 = ap (λ (o : Outcome). o.answer.count) e in
+    omega (arith, r ∙ counted given ∙ c)

@@ -7,7 +7,7 @@ use cmd_usage::Program;
 fn show(rt: &HostRuntime, sheet: &[u8]) {
     let mut text = [0u8; 16384];
     let answer = cmd_show::show_sheet(sheet, &mut text);
-    let n = answer.count;
+    let n = answer.unwrap_or(0);
     cmd_io::finish(rt, Program::Show, answer, &text[..n]);
 }
 
@@ -16,10 +16,8 @@ fn main(rt: HostRuntime) {
         return;
     }
     let mut sheet = sheets::input_buffer();
-    let got = cmd_io::read_named(&rt, Program::Show, 1, &mut sheet);
-    if got.failed {
+    let Some(n) = cmd_io::read_named(&rt, Program::Show, 1, &mut sheet) else {
         return;
-    }
-    let n = got.count;
+    };
     show(&rt, &sheet[..n]);
 }
