@@ -4,307 +4,154 @@
 
 mod plain;
 
-ghost use Rattle.std.specs.Prelude.{◌≤◌, length};
-
 use answers::Answer;
+use plain::Switch;
+use std::alloc::{AllocError, Global};
+use std::io;
 use tally::Tally;
 
-// One of the two calls, on parts of the buffers.
-fn call(
-    n: usize,
-    width: usize,
-    blocks: &mut [u8],
-    bytes: usize,
-    bits: &[u8],
-    w: usize,
-    log: &mut [u16],
-    words: usize,
-    back: bool,
-) -> Answer
-    requires { (bytes ≤ length blocks.old) × (w ≤ length bits.now) × (words ≤ length log.old) }
-{
-    if back {
-        return apply::apply_inverse(
-            n,
-            width,
-            &mut blocks[..bytes],
-            &bits[..w],
-            &mut log[..words],
-        );
-    }
-    apply::apply(
-        n,
-        width,
-        &mut blocks[..bytes],
-        &bits[..w],
-        &mut log[..words],
-    )
-}
-
-fn least(a: usize, b: usize) -> usize
-    ensures { result ≤ b }
-{
-    if a < b { a } else { b }
-}
+// So much lies behind what a call is lent, and is compared too.
+const BEHIND: usize = 64;
 
 // ---- accepted calls: the answer, the blocks, and the log with the words behind it
 
-// The words of w entries, and up to five more.
-fn room(w: usize, more: usize) -> usize
-    requires { w ≤ 9217 }
-    ensures { result ≤ 36873 }
-{
-    4 * w + more % 6
-}
+// Sizes, from one to another.
+const SIZES: [(u16, u16); 5] = [(0, 33), (127, 128), (255, 259), (1000, 1000), (1023, 1024)];
 
-fn ours(
-    n: usize,
-    width: usize,
-    bits: &[u8; counts::MOST_SWITCHES],
-    w: usize,
-    blocks: &mut [u8; 262144],
-    log: &mut [u16; 36873],
-    back: bool,
-) -> Answer
-    requires { w ≤ 9217 }
-{
-    let bytes = tally::times(n, width);
-    let words = room(w, n);
-    call(n, width, blocks, bytes, bits, w, log, words, back)
-}
-
-fn theirs(
-    blocks: &mut [u8; 262144],
-    width: usize,
-    lower: &[usize],
-    upper: &[usize],
-    w: usize,
-    bits: &[u8; counts::MOST_SWITCHES],
-    log: &mut [u16; 36873],
-    back: bool,
-    from: usize,
-    to: usize,
-) {
-    plain::run(blocks, width, lower, upper, w, bits, log, back, from, to);
-}
-
-// The entries whose words stand from `start` on, and end before `end`.
-fn part(
-    blocks: &mut [u8; 262144],
-    width: usize,
-    log: &[u16],
-    start: usize,
-    end: usize,
-    bits: &[u8; counts::MOST_SWITCHES],
-)
-    requires { (start ≤ end) × (end ≤ length log.now) }
-{
-    plain::replay(blocks, width, &log[start..end], bits);
-}
-
-// Those from `from` on of a log of w.
-fn rest(
-    blocks: &mut [u8; 262144],
-    width: usize,
-    log: &[u16; 36873],
-    from: usize,
-    w: usize,
-    bits: &[u8; counts::MOST_SWITCHES],
-) {
-    let end = least(w, 9217);
-    let start = least(from, end);
-    part(blocks, width, log, 4 * start, 4 * end, bits);
-}
+const WIDTHS: [u16; 4] = [1, 6, 255, 256];
 
 // A number from 0 to w.
-fn drawn(seed: u32, width: usize, w: usize) -> usize
-    requires { w ≤ 9217 }
-{
-    let x = tally::random(tally::random(seed % 65536 + (width % 512) as u32));
-    x as usize % (w + 1)
+fn drawn_entry(seed: u32, width: u16, w: usize) -> usize {
+    let x = tally::random(tally::random(seed % 65536 + u32::from(width % 512)));
+    x as usize % w.saturating_add(1)
 }
 
-fn fill(blocks: &mut [u8; 262144], seed: u32) {
-    plain::fill(blocks, seed, 256);
-}
-
-fn tally_buffers(
-    t: Tally,
-    a: &[u8; 262144],
-    b: &[u8; 262144],
-    c: &[u8; 262144],
-    la: &[u16; 36873],
-    lb: &[u16; 36873],
-) -> Tally {
-    let t1 = tally::tallied(tally::tallied(t, check::same(a, b)), check::same(a, c));
-    tally::tallied(t1, tally::same_words(la, lb))
-}
-
-// The blocks c are moved by the plain mixer up to a drawn entry, and from there by the log.
-fn compare(
-    t: Tally,
-    n: usize,
-    width: usize,
-    lower: &[usize],
-    upper: &[usize],
-    w: usize,
-    bits: &[u8; counts::MOST_SWITCHES],
+// The switches are given in the sequence in which the call runs them. The plain mixer runs them in two parts, and the second part is
+// run by the call's log too.
+fn check_call<F>(
+    alloc: Global,
+    tally: &mut Tally,
+    call: &F,
+    switches: &[Switch],
+    n: u16,
+    width: u16,
     seed: u32,
-    back: bool,
-) -> Tally
-    requires { w ≤ 9217 }
+) -> Result<(), AllocError>
+where
+    F: Fn(usize, usize, &mut [u8], &[u8], &mut [u16]) -> Answer,
+    requires { F.IsAlwaysCallable call.now }
 {
-    let mut a = [0u8; 262144];
-    let mut b = [0u8; 262144];
-    fill(&mut a, seed);
-    fill(&mut b, seed);
-    let mut la = [77u16; 36873];
-    let mut lb = [77u16; 36873];
-    let x = ours(n, width, bits, w, &mut a, &mut la, back);
-    let e = drawn(seed, width, w);
-    theirs(&mut b, width, lower, upper, w, bits, &mut lb, back, 0, e);
-    let mut c = b;
-    theirs(&mut b, width, lower, upper, w, bits, &mut lb, back, e, w);
-    rest(&mut c, width, &la, e, w, bits);
-    tally_buffers(
-        tally::tallied(t, tally::same_answer(x, answers::accept(w))),
-        &a,
-        &b,
-        &c,
-        &la,
-        &lb,
-    )
-}
+    let w = switches.len();
+    let bytes = tally::times(usize::from(n), usize::from(width));
+    let bits = plain::drawn(alloc, seed, 2, w)?;
+    let mut blocks = plain::drawn(alloc, seed, 256, bytes + BEHIND)?;
+    let mut right = blocks.clone()?;
 
-fn check(t: Tally, n: usize, width: usize, seed: u32, back: bool) -> Tally {
-    let mut lower = [0usize; counts::MOST_SWITCHES];
-    let mut upper = [0usize; counts::MOST_SWITCHES];
-    let count = plain::list(n, &mut lower, &mut upper);
-    let mut bits = [0u8; counts::MOST_SWITCHES];
-    plain::fill(&mut bits, seed, 2);
-    compare(
-        t,
-        n,
-        width,
-        &lower,
-        &upper,
-        least(count, 9217),
+    let e = drawn_entry(seed, width, w).min(w);
+    let (first, others) = switches.split_at(e);
+    let mut right_log = Vec::new(alloc);
+    plain::run(first, &mut right, width, &bits, &mut right_log)?;
+    let mut replayed = right.clone()?;
+    plain::run(others, &mut right, width, &bits, &mut right_log)?;
+    right_log.extend_from_slice(&[77; BEHIND + 5][..BEHIND + usize::from(n % 6)])?;
+
+    let mut log = vec![in alloc; 77; right_log.len()]?;
+    let room = log.len().saturating_sub(BEHIND);
+    let answer = call(
+        usize::from(n),
+        usize::from(width),
+        &mut blocks[..bytes],
         &bits,
-        seed,
-        back,
-    )
-}
-
-fn check_widths(t: Tally, n: usize, seed: u32, back: bool) -> Tally {
-    let t1 = check(t, n, 1, seed, back);
-    let t2 = check(t1, n, 6, seed, back);
-    let t3 = check(t2, n, 255, seed, back);
-    check(t3, n, 256, seed, back)
-}
-
-// Sizes from `from` to `to`.
-fn check_sizes(before: Tally, from: usize, to: usize, back: bool) -> Tally
-    requires { (from ≤ to) × (to ≤ 1024) }
-{
-    let mut t = before;
-    let mut n = from;
-    while n <= to {
-        t = check_widths(t, n, (n as u32) * 3 + 1, back);
-        n += 1;
+        &mut log[..room],
+    );
+    let (entries, _) = log.as_chunks::<4>();
+    if let Some(entries) = entries.get(e..w) {
+        plain::replay(entries, &mut replayed, width, &bits);
     }
-    t
+    tally.count(tally::answered(answer, 0, 0, w));
+    tally.compare(&blocks, &right);
+    tally.compare(&blocks, &replayed);
+    tally.compare(&log, &right_log);
+    Ok(())
 }
 
-fn check_all(t: Tally, back: bool) -> Tally {
-    let t1 = check_sizes(t, 0, 33, back);
-    let t2 = check_sizes(t1, 127, 128, back);
-    let t3 = check_sizes(t2, 255, 259, back);
-    let t4 = check_sizes(t3, 1000, 1000, back);
-    check_sizes(t4, 1023, 1024, back)
+fn check_sizes<F>(alloc: Global, call: F, last_first: bool) -> Result<Tally, AllocError>
+where
+    F: Fn(usize, usize, &mut [u8], &[u8], &mut [u16]) -> Answer,
+    requires { F.IsAlwaysCallable call }
+{
+    let mut tally = Tally::new();
+    for (from, to) in SIZES {
+        for n in from..=to {
+            let mut switches = plain::list(alloc, n)?;
+            if last_first {
+                switches.reverse();
+            }
+            for width in WIDTHS {
+                let seed = u32::from(n) * 3 + 1;
+                check_call(alloc, &mut tally, &call, &switches, n, width, seed)?;
+            }
+        }
+    }
+    Ok(tally)
 }
 
 // ---- refused calls: the answer, and both buffers as they were
 
-fn refused(
-    t: Tally,
-    n: usize,
-    width: usize,
-    bytes: usize,
-    w: usize,
-    words: usize,
-    bad: usize,
-    number: usize,
-    place: usize,
-    back: bool,
-) -> Tally
-    requires { (bytes ≤ 64) × (w ≤ 16) × (words ≤ 64) × (bad ≤ 15) }
+// n, the width, how many bytes, bits and words, and which bit is bad; the answer's number and place. Five places of six bytes have 30
+// bytes, 8 bits and 32 words: each question gets a no alone, then with every later one.
+const REFUSALS: [[u16; 8]; 19] = [
+    [1025, 6, 30, 8, 32, 15, 1, 0],
+    [1025, 0, 31, 7, 31, 0, 1, 0],
+    [5, 0, 30, 8, 32, 15, 2, 0],
+    [5, 257, 30, 8, 32, 15, 2, 0],
+    [5, 257, 31, 7, 31, 0, 2, 0],
+    [5, 6, 29, 8, 32, 15, 3, 0],
+    [5, 6, 31, 8, 32, 15, 3, 0],
+    [5, 6, 31, 7, 31, 0, 3, 0],
+    [5, 6, 30, 7, 32, 15, 4, 0],
+    [5, 6, 30, 9, 32, 15, 4, 0],
+    [5, 6, 30, 7, 31, 0, 4, 0],
+    [5, 6, 30, 8, 31, 15, 5, 0],
+    [5, 6, 30, 8, 31, 0, 5, 0],
+    [5, 6, 30, 8, 24, 15, 5, 0],
+    [5, 6, 30, 8, 32, 0, 7, 0],
+    [5, 6, 30, 8, 32, 3, 7, 3],
+    [5, 6, 30, 8, 40, 7, 7, 7],
+    // The longest log: one word too few, and three words an entry.
+    [1024, 1, 1024, 9217, 36867, 9217, 5, 0],
+    [1024, 1, 1024, 9217, 27651, 9217, 5, 0],
+];
+
+fn check_refusals<F>(alloc: Global, tally: &mut Tally, call: F) -> Result<(), AllocError>
+where
+    F: Fn(usize, usize, &mut [u8], &[u8], &mut [u16]) -> Answer,
+    requires { F.IsAlwaysCallable call }
 {
-    let mut bits = [1u8; 16];
-    bits[bad] = 2;
-    let mut a = [33u8; 64];
-    let mut la = [77u16; 64];
-    let x = call(n, width, &mut a, bytes, &bits, w, &mut la, words, back);
-    let t1 = tally::tallied(t, tally::same_answer(x, answers::refuse(number, place)));
-    let t2 = tally::tallied(t1, check::same(&a, &[33u8; 64]));
-    tally::tallied(t2, tally::same_words(&la, &[77u16; 64]))
+    for row in REFUSALS {
+        let [n, width, bytes, w, words, bad, number, place] = row.map(|x| usize::from(x));
+        let mut bits = vec![in alloc; 1; w]?;
+        if let Some(bit) = bits.get_mut(bad) {
+            *bit = 2;
+        }
+        let mut blocks = vec![in alloc; 33; bytes.saturating_add(BEHIND)]?;
+        let mut log = vec![in alloc; 77; words.saturating_add(BEHIND)]?;
+        let answer = call(n, width, &mut blocks[..bytes], &bits, &mut log[..words]);
+        tally.count(tally::answered(answer, number, place, 0));
+        tally.count(blocks.iter().all(|byte| *byte == 33));
+        tally.count(log.iter().all(|word| *word == 77));
+    }
+    Ok(())
 }
 
-// Five places of six bytes: 30 bytes, 8 bits, 32 words. Each question gets a no alone, then with every later one.
-fn refuse_lengths(t: Tally, back: bool) -> Tally {
-    let t1 = refused(t, 1025, 6, 30, 8, 32, 15, 1, 0, back);
-    let t2 = refused(t1, 1025, 0, 31, 7, 31, 0, 1, 0, back);
-    let t3 = refused(t2, 5, 0, 30, 8, 32, 15, 2, 0, back);
-    let t4 = refused(t3, 5, 257, 30, 8, 32, 15, 2, 0, back);
-    let t5 = refused(t4, 5, 257, 31, 7, 31, 0, 2, 0, back);
-    let t6 = refused(t5, 5, 6, 29, 8, 32, 15, 3, 0, back);
-    let t7 = refused(t6, 5, 6, 31, 8, 32, 15, 3, 0, back);
-    refused(t7, 5, 6, 31, 7, 31, 0, 3, 0, back)
-}
-
-fn refuse_contents(t: Tally, back: bool) -> Tally {
-    let t1 = refused(t, 5, 6, 30, 7, 32, 15, 4, 0, back);
-    let t2 = refused(t1, 5, 6, 30, 9, 32, 15, 4, 0, back);
-    let t3 = refused(t2, 5, 6, 30, 7, 31, 0, 4, 0, back);
-    let t4 = refused(t3, 5, 6, 30, 8, 31, 15, 5, 0, back);
-    let t5 = refused(t4, 5, 6, 30, 8, 31, 0, 5, 0, back);
-    let t6 = refused(t5, 5, 6, 30, 8, 24, 15, 5, 0, back);
-    let t7 = refused(t6, 5, 6, 30, 8, 32, 0, 7, 0, back);
-    let t8 = refused(t7, 5, 6, 30, 8, 32, 3, 7, 3, back);
-    refused(t8, 5, 6, 30, 8, 40, 7, 7, 7, back)
-}
-
-// The longest log, with the words of its entries but for some.
-fn refuse_short(t: Tally, less: usize, back: bool) -> Tally
-    requires { less ≤ 36868 }
-{
-    let mut a = [33u8; 1024];
-    let mut la = [77u16; 36868];
-    let bits = [1u8; counts::MOST_SWITCHES];
-    let words = 36868 - less;
-    let x = call(1024, 1, &mut a, 1024, &bits, 9217, &mut la, words, back);
-    let t1 = tally::tallied(t, tally::same_answer(x, answers::refuse(5, 0)));
-    let t2 = tally::tallied(t1, check::same(&a, &[33u8; 1024]));
-    tally::tallied(t2, tally::same_words(&la, &[77u16; 36868]))
-}
-
-// One word too few, and three words an entry.
-fn refuse_each(t: Tally, back: bool) -> Tally {
-    let t1 = refuse_contents(refuse_lengths(t, back), back);
-    refuse_short(refuse_short(t1, 1, back), 9217, back)
-}
-
-fn refuse_all(t: Tally) -> Tally {
-    refuse_each(refuse_each(t, false), true)
-}
-
-fn main() {
-    tally::print(
-        b"apply at 44 sizes and 4 widths",
-        check_all(tally::none(), false),
-    );
-    tally::print(
-        b"apply_inverse at 44 sizes and 4 widths",
-        check_all(tally::none(), true),
-    );
-    tally::print(b"refusals", refuse_all(tally::none()));
+fn main(rt: HostRuntime) -> io::Result<()> {
+    let alloc = rt.alloc();
+    let mixed = check_sizes(alloc, apply::apply, false)?;
+    println!(rt; "apply at 44 sizes and 4 widths: {mixed}")?;
+    let returned = check_sizes(alloc, apply::apply_inverse, true)?;
+    println!(rt; "apply_inverse at 44 sizes and 4 widths: {returned}")?;
+    let mut refused = Tally::new();
+    check_refusals(alloc, &mut refused, apply::apply)?;
+    check_refusals(alloc, &mut refused, apply::apply_inverse)?;
+    println!(rt; "refusals: {refused}")
 }

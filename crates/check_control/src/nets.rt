@@ -1,158 +1,153 @@
-// The networks within a network of n places, listed without recursion, as a heap: the halves of network j are networks
-// 2j + 1 (top) and 2j + 2 (bottom). And the setter's log, written out from that list.
+// The networks within a network of n places, listed without recursion, each before its halves. And the setter's log, written out
+// from that list.
+ghost use Rattle.std.specs.Prelude.{◌≡◌, ◌+◌, ◌/◌};
 
-// Fields of a network: its first place, how many places, the position of its first bit, how many bits, the number of its
-// first entry, how many entries.
-pub const START: usize = 0;
+use std::alloc::{AllocError, Global};
 
-pub const SIZE: usize = 1;
-
-pub const BIT: usize = 2;
-
-pub const BITS: usize = 3;
-
-pub const ENTRY: usize = 4;
-
-pub const ENTRIES: usize = 5;
-
-pub(crate) fn of(nets: &[usize; 12288], j: usize, field: usize) -> usize {
-    nets[j % 2048 * 6 + field % 6]
+// How many bits and entries a network has.
+#[derive(Clone, Copy)]
+struct Counts {
+    bits: u16,
+    entries: u16,
 }
 
-fn put(nets: &mut [usize; 12288], j: usize, field: usize, x: usize) {
-    nets[j % 2048 * 6 + field % 6] = x;
+// A network: its first place, how many places, the position of its first bit, how many bits, the number of its first entry, how
+// many entries.
+#[derive(Clone, Copy)]
+pub(crate) struct Net {
+    pub start: u16,
+    pub size: u16,
+    pub bit: u16,
+    pub bits: u16,
+    pub entry: u16,
+    pub entries: u16,
 }
 
 // m/2 rounded up.
-pub(crate) fn up(m: usize) -> usize {
+pub(crate) fn up(m: u16) -> u16
+    ensures { result + m / 2 ≡ m }
+{
     m - m / 2
 }
 
 // How many entries of a network of m places stand before those of its halves: steps 1, 2, 3 for each pair, 4, 5; for two
 // places step 5 alone.
-fn entries_before(m: usize) -> usize {
-    if m == 2 { 1 } else { up(m) % 1024 * 3 + 2 }
-}
-
-// At 2m how many bits m places have, at 2m + 1 how many entries: from the counts of the halves, smallest first.
-fn counts() -> [usize; 2050] {
-    let mut c = [0usize; 2050];
-    let mut m = 2;
-    while m < 1025 {
-        let k = m - m / 2;
-        let h = m / 2;
-        c[m * 2] = tally::add(m - 1, tally::add(c[k * 2], c[h * 2]));
-        c[m * 2 + 1] = tally::add(
-            tally::add(entries_before(m), 1),
-            tally::add(c[k * 2 + 1], c[h * 2 + 1]),
-        );
-        m += 1;
-    }
-    c
-}
-
-fn net(
-    nets: &mut [usize; 12288],
-    counts: &[usize; 2050],
-    j: usize,
-    o: usize,
-    m: usize,
-    bit: usize,
-    entry: usize,
-) {
-    put(nets, j, START, o);
-    put(nets, j, SIZE, m);
-    put(nets, j, BIT, bit);
-    put(nets, j, BITS, counts[m % 1025 * 2]);
-    put(nets, j, ENTRY, entry);
-    put(nets, j, ENTRIES, counts[m % 1025 * 2 + 1]);
-}
-
-// The top half, behind what network j has before its halves.
-fn top(nets: &mut [usize; 12288], counts: &[usize; 2050], j: usize, t: usize, m: usize) {
-    let o = of(nets, j, START);
-    let bit = tally::add(of(nets, j, BIT), less(up(m)));
-    let entry = tally::add(of(nets, j, ENTRY), entries_before(m));
-    net(nets, counts, t, o, up(m), bit, entry);
-}
-
-// The bottom half, behind the top half t.
-fn bottom(nets: &mut [usize; 12288], counts: &[usize; 2050], t: usize, h: usize) {
-    let o = tally::add(of(nets, t, START), of(nets, t, SIZE));
-    let bit = tally::add(of(nets, t, BIT), of(nets, t, BITS));
-    let entry = tally::add(of(nets, t, ENTRY), of(nets, t, ENTRIES));
-    net(nets, counts, t % 2048 + 1, o, h, bit, entry);
-}
-
-fn halve(nets: &mut [usize; 12288], counts: &[usize; 2050], j: usize) {
-    let m = of(nets, j, SIZE);
-    let t = j % 1023 * 2 + 1;
-    if 1 < m {
-        top(nets, counts, j, t, m);
-        bottom(nets, counts, t, m / 2);
+fn entries_before(m: u16) -> u16 {
+    if m == 2 {
+        1
+    } else {
+        up(m).wrapping_mul(3).wrapping_add(2)
     }
 }
 
-pub(crate) fn list(n: usize) -> [usize; 12288] {
-    let counts = counts();
-    let mut nets = [0usize; 12288];
-    net(&mut nets, &counts, 0, 0, n, 0, 0);
-    let mut j = 0;
-    while j < 1023 {
-        halve(&mut nets, &counts, j);
-        j += 1;
+// For each size up to 1,024, from the counts of the halves, smallest first.
+fn counts_by_size() -> [Counts; 1025] {
+    let mut counts = [Counts {
+        bits: 0,
+        entries: 0,
+    }; 1025];
+    for m in 2..1025u16 {
+        let top = counts[usize::from(up(m))];
+        let bottom = counts[usize::from(m / 2)];
+        counts[usize::from(m)] = Counts {
+            bits: (m - 1).wrapping_add(top.bits).wrapping_add(bottom.bits),
+            entries: entries_before(m)
+                .wrapping_add(top.entries)
+                .wrapping_add(bottom.entries)
+                .wrapping_add(1),
+        };
     }
-    nets
+    counts
+}
+
+impl Net {
+    fn new(counts: &[Counts; 1025], start: u16, size: u16, bit: u16, entry: u16) -> Net {
+        let Counts { bits, entries } = counts[usize::from(size % 1025)];
+        Net {
+            start,
+            size,
+            bit,
+            bits,
+            entry,
+            entries,
+        }
+    }
+
+    // The top half, behind what the network has before its halves.
+    fn top(self, counts: &[Counts; 1025]) -> Net {
+        let size = up(self.size);
+        let bit = self.bit.wrapping_add(size.saturating_sub(1));
+        let entry = self.entry.wrapping_add(entries_before(self.size));
+        Net::new(counts, self.start, size, bit, entry)
+    }
+
+    // The bottom half, behind the top half.
+    fn bottom(self, counts: &[Counts; 1025]) -> Net {
+        let top = self.top(counts);
+        let start = top.start.wrapping_add(top.size);
+        let bit = top.bit.wrapping_add(top.bits);
+        let entry = top.entry.wrapping_add(top.entries);
+        Net::new(counts, start, self.size / 2, bit, entry)
+    }
+}
+
+// The whole, and the networks within it: for 1,024 places 2,047.
+#[derive(Drop)]
+pub(crate) struct Nets {
+    pub whole: Net,
+    pub all: Vec<Net>,
+}
+
+pub(crate) fn list(alloc: Global, n: u16) -> Result<Nets, AllocError> {
+    let counts = counts_by_size();
+    let whole = Net::new(&counts, 0, n, 0, 0);
+    let mut all = vec![in alloc; whole]?;
+    for j in 0..2047 {
+        let Some(net) = all.get(j).copied() else {
+            break;
+        };
+        if 1 < net.size {
+            all.push(net.top(&counts))?;
+            all.push(net.bottom(&counts))?;
+        }
+    }
+    Ok(Nets { whole, all })
 }
 
 // ---- the log
 
-fn write(log: &mut [u16; 65536], e: usize, kind: u16, o: usize, m: usize, bit: usize) {
-    let at = e % 16384 * 4;
-    log[at] = kind;
-    log[at + 1] = (o % 65536) as u16;
-    log[at + 2] = (m % 65536) as u16;
-    log[at + 3] = (bit % 65536) as u16;
-}
-
-// Steps 1, 2, 3 for each of the k pairs, then 4, from entry e on.
-fn write_rounds(log: &mut [u16; 65536], e: usize, o: usize, m: usize, bit: usize) {
-    let k = up(m);
-    let mut at = e;
-    let mut i = 0;
-    while i < k {
-        write(log, at, 1, o, m, bit);
-        write(log, tally::add(at, 1), 2, o, m, bit);
-        write(log, tally::add(at, 2), 3, o, m, bit);
-        at = tally::add(at, 3);
-        i += 1;
+impl Net {
+    // An entry of the network: number `entry`, and its kind.
+    fn write(self, log: &mut [u16], entry: u16, kind: u16) {
+        let at = 4 * usize::from(entry);
+        if let Some(words) = log.get_mut(at..at + 4) {
+            words.copy_from_slice(&[kind, self.start, self.size, self.bit]);
+        }
     }
-    write(log, at, 4, o, m, bit);
-}
 
-fn write_net(log: &mut [u16; 65536], nets: &[usize; 12288], j: usize) {
-    let o = of(nets, j, START);
-    let m = of(nets, j, SIZE);
-    let bit = of(nets, j, BIT);
-    let e = of(nets, j, ENTRY);
-    if m < 2 {
-        return;
+    // Steps 1, 2, 3 for each pair, then 4, where there are more than two places; then 5; the last entry is step 6.
+    fn write_all(self, log: &mut [u16]) {
+        let mut entry = self.entry;
+        if 2 < self.size {
+            for _pair in 0..up(self.size) {
+                for step in 1..=3 {
+                    self.write(log, entry, step);
+                    entry = entry.wrapping_add(1);
+                }
+            }
+            self.write(log, entry, 4);
+            entry = entry.wrapping_add(1);
+        }
+        self.write(log, entry, 5);
+        let last = self.entry.wrapping_add(self.entries).wrapping_sub(1);
+        self.write(log, last, 6);
     }
-    if 2 < m {
-        write_rounds(log, e, o, m, bit);
-    }
-    write(log, less(tally::add(e, entries_before(m))), 5, o, m, bit);
-    write(log, less(tally::add(e, of(nets, j, ENTRIES))), 6, o, m, bit);
 }
 
-pub(crate) fn less(x: usize) -> usize {
-    if x == 0 { 0 } else { x - 1 }
-}
-
-pub(crate) fn write_all(log: &mut [u16; 65536], nets: &[usize; 12288]) {
-    let mut j = 0;
-    while j < 1023 {
-        write_net(log, nets, j);
-        j += 1;
+impl Nets {
+    pub(crate) fn write_log(&self, log: &mut [u16]) {
+        for net in self.all.iter().filter(|net| 1 < net.size) {
+            net.write_all(log);
+        }
     }
 }

@@ -1,25 +1,18 @@
 // A second setter, by another way: each ring is followed by looking places and values up, and an output bit is read off
 // the value that the top half has to bring. No trail, no marks, no sweeps; the networks come from a list.
-use crate::nets;
+use crate::nets::{Net, Nets, up};
+use std::alloc::{AllocError, Global};
 
-// Entry o + i of a table.
-fn at(a: &[usize; 1024], o: usize, i: usize) -> usize {
-    a[(o % 1024 + i % 1024) % 1024]
-}
-
-fn put(a: &mut [usize; 1024], o: usize, i: usize, x: usize) {
-    a[(o % 1024 + i % 1024) % 1024] = x;
-}
-
-fn put_bit(bits: &mut [u8; counts::MOST_SWITCHES], i: usize, bit: bool) {
-    if i < 9217 {
-        bits[i] = bit as u8;
-    }
+// The half that a value goes to.
+#[derive(Clone, Copy, PartialEq, Eq)]
+enum Side {
+    Top,
+    Bottom,
 }
 
 // The other one of v and v + k: associates among values, the two of a pair among places.
 fn other(k: usize, v: usize) -> usize {
-    if v < k { tally::add(v, k) } else { v - k }
+    if v < k { v.wrapping_add(k) } else { v - k }
 }
 
 // A value inside its half.
@@ -27,134 +20,104 @@ fn inner(k: usize, v: usize) -> usize {
     if v < k { v } else { v - k }
 }
 
-// The value at place p of m places from o. Place m is imagined and holds value m.
-fn value(table: &[usize; 1024], o: usize, m: usize, p: usize) -> usize {
-    if p < m { at(table, o, p) } else { m }
+// The value at place p of m places, or the place of value p. Place m is imagined and holds value m.
+fn value(table: &[usize], p: usize) -> usize {
+    table.get(p).copied().unwrap_or(table.len())
+}
+
+fn put<T: Copy>(table: &mut [T], i: usize, x: T) {
+    if let Some(place) = table.get_mut(i) {
+        *place = x;
+    }
 }
 
 // At each value the place that holds it.
-fn find_homes(table: &[usize; 1024], o: usize, m: usize) -> [usize; 1024] {
-    let mut home = [0usize; 1024];
-    let mut p = 0;
-    while p < m {
-        put(&mut home, 0, at(table, o, p), p);
-        p += 1;
+fn find_homes(alloc: Global, table: &[usize]) -> Result<Vec<usize>, AllocError> {
+    let mut home = vec![in alloc; 0; table.len()]?;
+    for (p, v) in table.iter().enumerate() {
+        put(&mut home, *v, p);
     }
-    if m % 2 == 1 {
-        put(&mut home, 0, m, m);
-    }
-    home
+    Ok(home)
 }
 
-// Follows a ring from place c, where it is new: c goes to the top (1), the other place of its pair to the bottom (2), the
-// place of that one's associate to the top, and so on.
-fn ring(
-    side: &mut [usize; 1024],
-    table: &[usize; 1024],
-    home: &[usize; 1024],
-    o: usize,
-    m: usize,
-    c: usize,
-) {
-    let k = nets::up(m);
+// Follows a ring from place c, where it is new: c goes to the top, the other place of its pair to the bottom, the place of that
+// one's associate to the top, and so on.
+fn ring(sides: &mut [Option<Side>], table: &[usize], home: &[usize], k: usize, c: usize) {
     let mut p = c;
-    let mut turn = 0;
-    while turn < k {
-        if at(side, 0, p) != 0 {
+    for _ in 0..k {
+        if sides.get(p) != Some(&None) {
             return;
         }
         let q = other(k, p);
-        put(side, 0, p, 1);
-        put(side, 0, q, 2);
-        p = at(home, 0, other(k, value(table, o, m, q)));
-        turn += 1;
+        put(sides, p, Some(Side::Top));
+        put(sides, q, Some(Side::Bottom));
+        p = value(home, other(k, value(table, q)));
     }
 }
 
 // The lower place of the last pair goes to the top, and in each ring without it that of the lowest pair.
-fn find_sides(table: &[usize; 1024], o: usize, m: usize) -> [usize; 1024] {
-    let home = find_homes(table, o, m);
-    let mut side = [0usize; 1024];
-    let k = nets::up(m);
-    ring(&mut side, table, &home, o, m, nets::less(k));
-    let mut i = 0;
-    while i < k {
-        ring(&mut side, table, &home, o, m, i);
-        i += 1;
+fn find_sides(alloc: Global, table: &[usize], k: usize) -> Result<Vec<Option<Side>>, AllocError> {
+    let home = find_homes(alloc, table)?;
+    let mut sides = vec![in alloc; None; k.saturating_mul(2)]?;
+    ring(&mut sides, table, &home, k, k.saturating_sub(1));
+    for i in 0..k {
+        ring(&mut sides, table, &home, k, i);
     }
-    side
+    Ok(sides)
 }
 
-// Deals out pair i of a network whose first bit and first output bit are given: one value to the top, the other to the
-// bottom, each inside its half; the pair's bit, where it has a switch; the output bit of the value that the top brings.
-fn deal(
-    table: &mut [usize; 1024],
-    bits: &mut [u8; counts::MOST_SWITCHES],
-    o: usize,
-    m: usize,
-    first: usize,
-    last: usize,
-    i: usize,
-    crossed: bool,
-) {
-    let k = nets::up(m);
-    let x = value(table, o, m, i);
-    let y = value(table, o, m, tally::add(k, i));
-    let top = pick(crossed, y, x);
-    let bring = inner(k, top);
-    put(table, o, i, bring);
-    if bring < m / 2 {
-        put_bit(bits, tally::add(last, bring), k <= top);
-    }
-    if i < m / 2 {
-        put(table, o, tally::add(k, i), inner(k, pick(crossed, x, y)));
-    }
-    if tally::add(i, 1) < k {
-        put_bit(bits, tally::add(first, i), crossed);
-    }
-}
-
-fn pick(first: bool, x: usize, y: usize) -> usize {
-    if first { x } else { y }
-}
-
-// The position of a network's first output bit: they are its last m - k.
-fn outputs(nets: &[usize; 12288], j: usize) -> usize {
-    let end = tally::add(nets::of(nets, j, nets::BIT), nets::of(nets, j, nets::BITS));
-    std::num::wrapping_sub_usize(end, nets::of(nets, j, nets::SIZE) / 2)
-}
-
+// Sets a network whose values are given, into all bits: deals out each pair, one value to the top, the other to the bottom, each
+// inside its half; the pair's bit, where it has a switch; the output bit of the value that the top brings. The output bits are the
+// network's last ones.
 fn set_net(
-    table: &mut [usize; 1024],
-    bits: &mut [u8; counts::MOST_SWITCHES],
-    nets: &[usize; 12288],
-    j: usize,
-) {
-    let o = nets::of(nets, j, nets::START);
-    let m = nets::of(nets, j, nets::SIZE);
-    let first = nets::of(nets, j, nets::BIT);
-    let last = outputs(nets, j);
-    let side = find_sides(table, o, m);
-    let k = nets::up(m);
-    let mut i = 0;
-    while i < k {
-        deal(table, bits, o, m, first, last, i, at(&side, 0, i) == 2);
-        i += 1;
+    alloc: Global,
+    net: Net,
+    table: &mut [usize],
+    bits: &mut [u8],
+) -> Result<(), AllocError> {
+    let k = usize::from(up(net.size));
+    let h = usize::from(net.size / 2);
+    let first = usize::from(net.bit);
+    let last = (first + usize::from(net.bits)).wrapping_sub(h);
+    let sides = find_sides(alloc, table, k)?;
+    for i in 0..k {
+        let (x, y) = (value(table, i), value(table, k + i));
+        let crossed = sides.get(i) == Some(&Some(Side::Bottom));
+        let (top, bottom) = if crossed { (y, x) } else { (x, y) };
+        let bring = inner(k, top);
+        put(table, i, bring);
+        if bring < h {
+            put(bits, last.wrapping_add(bring), u8::from(k <= top));
+        }
+        if i < h {
+            put(table, k + i, inner(k, bottom));
+        }
+        if i + 1 < k {
+            put(bits, first + i, u8::from(crossed));
+        }
     }
+    Ok(())
 }
 
 // The canonical setting of an order, into the first bits; those behind stay.
 pub(crate) fn set(
-    order: &[u16; 1024],
-    nets: &[usize; 12288],
-    bits: &mut [u8; counts::MOST_SWITCHES],
-) {
-    let mut table = tally::widened(order);
-    let mut j = 0;
-    while j < 1023 {
-        if 1 < nets::of(nets, j, nets::SIZE) {
-            set_net(&mut table, bits, nets, j);
+    alloc: Global,
+    order: &[u16],
+    nets: &Nets,
+    bits: &mut [u8],
+) -> Result<(), AllocError> {
+    let mut table: Vec<usize> = order
+        .iter()
+        .map(|place| usize::from(*place))
+        .collect(alloc)?;
+    for net in &nets.all {
+        let start = usize::from(net.start);
+        let end = start + usize::from(net.size);
+        if let Some(part) = table.as_mut_slice().get_mut(start..end) {
+            if 1 < net.size {
+                set_net(alloc, *net, part, bits)?;
+            }
         }
-        j += 1;
     }
+    Ok(())
 }

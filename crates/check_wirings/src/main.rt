@@ -5,7 +5,11 @@
 mod refusals;
 mod values;
 
-fn main() {
-    tally::print(b"written values", values::all());
-    tally::print(b"refusals", refusals::all());
+use std::io;
+
+fn main(rt: HostRuntime) -> io::Result<()> {
+    let values = values::all(rt.alloc())?;
+    let refusals = refusals::all();
+    println!(rt; "written values: {values}")?;
+    println!(rt; "refusals: {refusals}")
 }

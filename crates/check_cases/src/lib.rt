@@ -1,0 +1,137 @@
+// What the check programs set, mix, return and convert: sizes, words for the draw of an order, settings and blocks.
+#![tactic(auto)]
+
+ghost use Rattle.std.specs.Prelude.{◌≡◌, ◌+◌, ◌<◌, IfOk, All, vec_len, length};
+
+use std::alloc::{AllocError, Global};
+use std::ops::Range;
+
+// ---- sizes
+
+// So many places, and how many orders and settings of them.
+#[derive(Clone, Copy)]
+pub struct Size {
+    pub places: u16,
+    pub orders: u32,
+    pub settings: u32,
+}
+
+// All orders and all settings.
+const SMALL: [(u16, u32, u32); 7] = [
+    (0, 1, 1),
+    (1, 1, 1),
+    (2, 2, 2),
+    (3, 6, 8),
+    (4, 24, 32),
+    (5, 120, 256),
+    (6, 720, 2048),
+];
+
+pub fn small() -> [Size; 7] {
+    SMALL.map(|(places, orders, settings)| Size {
+        places,
+        orders,
+        settings,
+    })
+}
+
+const LARGE: [u16; 12] = [7, 23, 127, 128, 255, 256, 257, 258, 259, 1000, 1023, 1024];
+
+pub fn large() -> [Size; 12] {
+    LARGE.map(|places| Size {
+        places,
+        orders: 25,
+        settings: 2,
+    })
+}
+
+// ---- words for a draw of n places
+
+// Word i is c without its last i digits, to the bases n, n - 1, ..: so n! numbers c in a row give each order once.
+pub fn numbered(alloc: Global, c: u32, n: u16) -> Result<Vec<u32>, AllocError>
+    ensures { IfOk result (λ words. vec_len words ≡ n) }
+{
+    let mut words = Vec::new(alloc);
+    let mut x = c;
+    for i in 0..n {
+        words.push(x)?;
+        x /= u32::from(n - i);
+    }
+    Ok(words)
+}
+
+// A pseudo-random sequence from c.
+pub fn drawn(alloc: Global, c: u32, n: u16) -> Result<Vec<u32>, AllocError>
+    ensures { IfOk result (λ words. vec_len words ≡ n) }
+{
+    let mut words = vec![in alloc; 0; usize::from(n)]?;
+    let mut x = c;
+    for word in words.iter_mut() {
+        *word = x;
+        x = tally::next(x);
+    }
+    Ok(words)
+}
+
+// ---- settings
+
+// A setting of w bits: the binary digits of c, and behind sixteen of them a pseudo-random sequence.
+pub fn setting(alloc: Global, c: u32, w: usize) -> Result<Vec<u8>, AllocError>
+    ensures length { IfOk result (λ bits. vec_len bits ≡ w) }
+{
+    let mut bits = vec![in alloc; 0; w]?;
+    let mut x = c;
+    for (i, bit) in bits.iter_mut().enumerate() {
+        *bit = (x % 2) as u8;
+        x = if i < 16 {
+            x / 2
+        } else {
+            tally::next(x % 65536 * 3 + c % 65536)
+        };
+    }
+    Ok(bits)
+}
+
+// ---- blocks
+
+// The first bytes of a pseudo-random sequence.
+pub fn blocks(alloc: Global, bytes: usize) -> Result<Vec<u8>, AllocError>
+    ensures { IfOk result (λ blocks. vec_len blocks ≡ bytes) }
+{
+    let mut blocks = vec![in alloc; 0; bytes]?;
+    let mut x = 31;
+    for byte in blocks.iter_mut() {
+        x = tally::next(x);
+        *byte = (x % 251) as u8;
+    }
+    Ok(blocks)
+}
+
+// Where the block at a place lies.
+fn span(place: usize, width: u16) -> Range<usize>
+    ensures { result.end ≡ result.start + width }
+{
+    let width = usize::from(width);
+    let start = tally::times(place, width);
+    start..start + width
+}
+
+// Block i of the blocks is at place order[i].
+pub fn scattered(
+    alloc: Global,
+    blocks: &[u8],
+    order: &[u16],
+    width: u16,
+) -> Result<Vec<u8>, AllocError>
+    ensures { IfOk result (λ away. vec_len away ≡ length blocks.now) }
+{
+    let mut away = blocks.to_vec(alloc)?;
+    for (from, to) in order.iter().enumerate() {
+        if let Some(block) = blocks.get(span(from, width)) {
+            if let Some(place) = away.as_mut_slice().get_mut(span(usize::from(*to), width)) {
+                place.copy_from_slice(block);
+            }
+        }
+    }
+    Ok(away)
+}
