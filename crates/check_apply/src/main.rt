@@ -4,7 +4,7 @@
 
 mod plain;
 
-use answers::Answer;
+use answers::Refusal;
 use plain::Switch;
 use std::alloc::{AllocError, Global};
 use std::io;
@@ -38,7 +38,7 @@ fn check_call<F>(
     seed: u32,
 ) -> Result<(), AllocError>
 where
-    F: Fn(usize, usize, &mut [u8], &[u8], &mut [u16]) -> Answer,
+    F: Fn(usize, usize, &mut [u8], &[u8], &mut [u16]) -> Result<usize, Refusal>,
     requires { F.IsAlwaysCallable call.now }
 {
     let w = switches.len();
@@ -77,7 +77,7 @@ where
 
 fn check_sizes<F>(alloc: Global, call: F, last_first: bool) -> Result<Tally, AllocError>
 where
-    F: Fn(usize, usize, &mut [u8], &[u8], &mut [u16]) -> Answer,
+    F: Fn(usize, usize, &mut [u8], &[u8], &mut [u16]) -> Result<usize, Refusal>,
     requires { F.IsAlwaysCallable call }
 {
     let mut tally = Tally::new();
@@ -125,7 +125,7 @@ const REFUSALS: [[u16; 8]; 19] = [
 
 fn check_refusals<F>(alloc: Global, tally: &mut Tally, call: F) -> Result<(), AllocError>
 where
-    F: Fn(usize, usize, &mut [u8], &[u8], &mut [u16]) -> Answer,
+    F: Fn(usize, usize, &mut [u8], &[u8], &mut [u16]) -> Result<usize, Refusal>,
     requires { F.IsAlwaysCallable call }
 {
     for row in REFUSALS {
@@ -137,7 +137,7 @@ where
         let mut blocks = vec![in alloc; 33; bytes.saturating_add(BEHIND)]?;
         let mut log = vec![in alloc; 77; words.saturating_add(BEHIND)]?;
         let answer = call(n, width, &mut blocks[..bytes], &bits, &mut log[..words]);
-        tally.count(tally::answered(answer, number, place, 0));
+        tally.count(tally::refused(answer, number, place));
         tally.count(blocks.iter().all(|byte| *byte == 33));
         tally.count(log.iter().all(|word| *word == 77));
     }

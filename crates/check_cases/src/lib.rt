@@ -1,7 +1,8 @@
 // What the check programs set, mix, return and convert: sizes, words for the draw of an order, settings and blocks.
 #![tactic(auto)]
 
-ghost use Rattle.std.specs.Prelude.{◌≡◌, ◌+◌, ◌<◌, IfOk, All, vec_len, length};
+ghost use Rattle.std.specs.Prelude.{◌≡◌, ◌+◌, ◌<◌, ◌≤◌, IfOk, vec_len, length, slice_index_or};
+ghost use lib.ListN.{set};
 
 use std::alloc::{AllocError, Global};
 use std::ops::Range;
@@ -134,4 +135,22 @@ pub fn scattered(
         }
     }
     Ok(away)
+}
+
+// ---- tables of a network's values
+
+// The value at a place. The place behind the last is imagined and holds its own number.
+pub fn value(table: &[usize], place: usize) -> usize
+    ensures { result ≡ slice_index_or table.now place (length table.now) }
+{
+    table.get(place).copied().unwrap_or(table.len())
+}
+
+pub fn put<T: Copy>(table: &mut [T], place: usize, x: T)
+    ensures within { place < length table.old → table.new ≡ set table.old place x }
+    ensures nowhere { length table.old ≤ place → table.new ≡ table.old }
+{
+    if place < table.len() {
+        table[place] = x;
+    }
 }

@@ -1,6 +1,7 @@
 // A second setter, by another way: each ring is followed by looking places and values up, and an output bit is read off
 // the value that the top half has to bring. No trail, no marks, no sweeps; the networks come from a list.
 use crate::nets::{Net, Nets, up};
+use check_cases::{put, value};
 use std::alloc::{AllocError, Global};
 
 // The half that a value goes to.
@@ -18,17 +19,6 @@ fn other(k: usize, v: usize) -> usize {
 // A value inside its half.
 fn inner(k: usize, v: usize) -> usize {
     if v < k { v } else { v - k }
-}
-
-// The value at place p of m places, or the place of value p. Place m is imagined and holds value m.
-fn value(table: &[usize], p: usize) -> usize {
-    table.get(p).copied().unwrap_or(table.len())
-}
-
-fn put<T: Copy>(table: &mut [T], i: usize, x: T) {
-    if let Some(place) = table.get_mut(i) {
-        *place = x;
-    }
 }
 
 // At each value the place that holds it.

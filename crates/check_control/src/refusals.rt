@@ -16,7 +16,7 @@ fn refused(
     let mut bits = vec![in alloc; 7; w.saturating_add(BEHIND)]?;
     let mut log = vec![in alloc; 77; words.saturating_add(BEHIND)]?;
     let answer = control::control_bits(order, &mut bits[..w], &mut log[..words]);
-    tally.count(tally::answered(answer, number, place, 0));
+    tally.count(tally::refused(answer, number, place));
     tally.count(bits.iter().all(|bit| *bit == 7));
     tally.count(log.iter().all(|word| *word == 77));
     Ok(())

@@ -1,200 +1,127 @@
 // A second setter for the neighbour wiring, by another way: the pairs of a network are coloured, straight or crossed, ring by ring, and an
 // output bit is read off the value that the top half has to bring. No trail, no marks, no sweeps; the networks come from a list. The
 // associate of the value v is v ^ 1, and so is the other place of a pair.
-use crate::lists;
+use crate::lists::{Kind, Layers, Net};
+use check_cases::{put, value};
+use std::alloc::{AllocError, Global};
 
-const STRAIGHT: usize = 1;
-
-const CROSSED: usize = 2;
-
-fn at(a: &[usize; 1024], i: usize) -> usize {
-    a[i % 1024]
-}
-
-fn put(a: &mut [usize; 1024], i: usize, x: usize) {
-    a[i % 1024] = x;
-}
-
-fn put_bit(bits: &mut [u8; 9232], i: usize, bit: bool) {
-    if i < 9217 {
-        bits[i] = bit as u8;
-    }
+#[derive(Clone, Copy, PartialEq, Eq)]
+enum Colour {
+    Straight,
+    Crossed,
 }
 
 // ---- the colours
 
-// The values of m places that lie `apart` from o on; for odd m, place m is imagined and holds value m.
-fn row_of(table: &[usize; 1024], o: usize, m: usize, apart: usize) -> [usize; 1024] {
-    let mut row = [0usize; 1024];
-    let mut p = o;
-    let mut i = 0;
-    while i < m {
-        put(&mut row, i, at(table, p));
-        p = tally::add(p, apart);
-        i += 1;
+// At each value its place.
+fn find_homes(alloc: Global, row: &[usize]) -> Result<Vec<usize>, AllocError> {
+    let mut home = vec![in alloc; 0; row.len()]?;
+    for (p, v) in row.iter().enumerate() {
+        put(&mut home, *v, p);
     }
-    if m % 2 == 1 {
-        put(&mut row, m, m);
-    }
-    row
-}
-
-// At each value its place among the places of k pairs.
-fn find_homes(row: &[usize; 1024], k: usize) -> [usize; 1024] {
-    let places = k << 1;
-    let mut home = [0usize; 1024];
-    let mut p = 0;
-    while p < places {
-        put(&mut home, at(row, p), p);
-        p += 1;
-    }
-    home
+    Ok(home)
 }
 
 // The colour of a pair that is linked to a coloured one: the same where the associates lie on different sides.
-fn linked(colour: usize, same_side: bool) -> usize {
-    if same_side {
-        return if colour == STRAIGHT {
-            CROSSED
-        } else {
-            STRAIGHT
-        };
+fn linked(colour: Colour, same_side: bool) -> Colour {
+    match (colour, same_side) {
+        (Colour::Straight, true) => Colour::Crossed,
+        (Colour::Crossed, true) => Colour::Straight,
+        (_, false) => colour,
     }
-    colour
 }
 
-// From place p of a coloured pair to the pair of its value's associate, which is coloured where it is not. Answers that pair's other
-// place.
-fn follow(
-    colour: &mut [usize; 1024],
-    row: &[usize; 1024],
-    home: &[usize; 1024],
-    p: usize,
-) -> usize {
-    let s = at(home, at(row, p) ^ 1);
-    if at(colour, s / 2) == 0 {
-        put(colour, s / 2, linked(at(colour, p / 2), s % 2 == p % 2));
-    }
-    s ^ 1
-}
-
-// The ring of pair i among k, where that has no colour: straight itself, and then the others one by one.
-fn ring(colour: &mut [usize; 1024], row: &[usize; 1024], home: &[usize; 1024], k: usize, i: usize) {
-    if at(colour, i) != 0 {
+// The ring of pair i among the pairs, where that has no colour: straight itself, and then the others one by one. From place p of a
+// coloured pair one comes to the pair of its value's associate, at s, and goes on from that pair's other place.
+fn ring(colours: &mut [Option<Colour>], row: &[usize], home: &[usize], i: usize) {
+    if colours.get(i) != Some(&None) {
         return;
     }
-    put(colour, i, STRAIGHT);
-    let mut p = i << 1 | 1;
-    let mut turn = 0;
-    while turn < k {
-        p = follow(colour, row, home, p);
-        turn += 1;
+    put(colours, i, Some(Colour::Straight));
+    let mut colour = Colour::Straight;
+    let mut p = i.wrapping_mul(2) | 1;
+    for _ in 0..colours.len() {
+        let s = value(home, value(row, p) ^ 1);
+        colour = linked(colour, s % 2 == p % 2);
+        match colours.get(s / 2).copied().flatten() {
+            Some(known) => colour = known,
+            None => put(colours, s / 2, Some(colour)),
+        }
+        p = s ^ 1;
     }
 }
 
 // The last pair has no switch, and so is straight; in each ring without it the lowest pair is.
-fn find_colours(row: &[usize; 1024], k: usize) -> [usize; 1024] {
-    let home = find_homes(row, k);
-    let mut colour = [0usize; 1024];
-    ring(&mut colour, row, &home, k, lists::less(k));
-    let mut i = 0;
-    while i < k {
-        ring(&mut colour, row, &home, k, i);
-        i += 1;
+fn find_colours(
+    alloc: Global,
+    row: &[usize],
+    pairs: usize,
+) -> Result<Vec<Option<Colour>>, AllocError> {
+    let home = find_homes(alloc, row)?;
+    let mut colours = vec![in alloc; None; pairs]?;
+    ring(&mut colours, row, &home, pairs.saturating_sub(1));
+    for i in 0..pairs {
+        ring(&mut colours, row, &home, i);
     }
-    colour
+    Ok(colours)
 }
 
 // ---- the setting
 
-// The bits that pair i of m places decides: its own, where it has a switch, and that of the output switch which gets the value that
-// the top half brings.
-fn put_bits(
-    bits: &mut [u8; 9232],
-    m: usize,
-    first: usize,
-    last: usize,
-    i: usize,
-    crossed: bool,
-    top: usize,
-) {
-    if tally::add(i, 1) < lists::up(m) {
-        put_bit(bits, tally::add(first, i), crossed);
-    }
-    if top / 2 < m / 2 {
-        put_bit(bits, tally::add(last, top / 2), top % 2 == 1);
-    }
-}
-
-// Deals out pair i, which lies at p and q: one value to the top half and one to the bottom half, each counted inside its half. The
-// place of an imagined value is no place.
-fn deal(
-    table: &mut [usize; 1024],
-    m: usize,
-    i: usize,
-    p: usize,
-    q: usize,
-    top: usize,
-    bottom: usize,
-) {
-    put(table, p, top / 2);
-    if i < m / 2 {
-        put(table, q, bottom / 2);
-    }
-}
-
+// The bits that each pair decides: its own, where it has a switch, and that of the output switch which gets the value that the top half
+// brings. The pair is dealt out: one value to the top half and one to the bottom half, each counted inside its half. For odd m, place m
+// is imagined and holds value m; it is no place of the table.
 fn set_net(
-    table: &mut [usize; 1024],
-    bits: &mut [u8; 9232],
-    o: usize,
-    m: usize,
-    apart: usize,
-    first: usize,
-    last: usize,
-) {
-    let k = lists::up(m);
-    let row = row_of(table, o, m, apart);
-    let colour = find_colours(&row, k);
-    let mut p = o;
-    let mut i = 0;
-    while i < k {
-        let crossed = at(&colour, i) == CROSSED;
-        let x = i << 1 | crossed as usize;
-        let top = at(&row, x);
-        let q = tally::add(p, apart);
-        put_bits(bits, m, first, last, i, crossed, top);
-        deal(table, m, i, p, q, top, at(&row, x ^ 1));
-        p = tally::add(q, apart);
-        i += 1;
+    alloc: Global,
+    net: Net,
+    table: &mut [usize],
+    bits: &mut [u8],
+) -> Result<(), AllocError> {
+    let pairs = net.pairs();
+    let half = usize::from(net.size / 2);
+    let row: Vec<usize> = (0..net.size)
+        .map(|i| value(table, usize::from(net.place(i))))
+        .collect(alloc)?;
+    let colours = find_colours(alloc, &row, usize::from(pairs))?;
+    for i in 0..pairs {
+        let pair = usize::from(i);
+        let crossed = colours.get(pair) == Some(&Some(Colour::Crossed));
+        let x = pair * 2 + usize::from(crossed);
+        let (top, bottom) = (value(&row, x), value(&row, x ^ 1));
+        if pair + 1 < usize::from(pairs) {
+            put(bits, usize::from(net.first) + pair, u8::from(crossed));
+        }
+        if top / 2 < half {
+            put(
+                bits,
+                usize::from(net.last) + top / 2,
+                u8::from(top % 2 == 1),
+            );
+        }
+        let lower = i.wrapping_mul(2);
+        put(table, usize::from(net.place(lower)), top / 2);
+        if pair < half {
+            put(
+                table,
+                usize::from(net.place(lower.wrapping_add(1))),
+                bottom / 2,
+            );
+        }
     }
+    Ok(())
 }
 
-// Layer j: where it is input switches, its network is set.
-fn set_layer(table: &mut [usize; 1024], bits: &mut [u8; 9232], layers: &[usize; 12288], j: usize) {
-    let m = lists::of(layers, j, lists::SIZE);
-    if m == 0 {
-        return;
+// The canonical setting of an order.
+pub(crate) fn set(alloc: Global, layers: &Layers, order: &[u16]) -> Result<Vec<u8>, AllocError> {
+    let mut bits = vec![in alloc; 7; usize::from(layers.switches)]?;
+    let mut table: Vec<usize> = order
+        .iter()
+        .map(|place| usize::from(*place))
+        .collect(alloc)?;
+    for layer in &layers.all {
+        if layer.kind == Kind::Inputs {
+            set_net(alloc, layer.net, &mut table, &mut bits)?;
+        }
     }
-    if lists::of(layers, j, lists::KIND) == 1 {
-        return;
-    }
-    set_net(
-        table,
-        bits,
-        lists::of(layers, j, lists::START),
-        m,
-        lists::of(layers, j, lists::APART),
-        lists::of(layers, j, lists::FIRST),
-        lists::of(layers, j, lists::LAST),
-    )
-}
-
-// The canonical setting of an order, into the first bits; those behind stay.
-pub(crate) fn set(bits: &mut [u8; 9232], layers: &[usize; 12288], order: &[u16; 1024]) {
-    let mut table = tally::widened(order);
-    let mut j = 0;
-    while j < 2048 {
-        set_layer(&mut table, bits, layers, j);
-        j += 1;
-    }
+    Ok(bits)
 }

@@ -1,168 +1,150 @@
 // The layers of switches of a network of n places in the neighbour wiring, in the sequence of their bits, listed with a stack of tasks
 // and no recursion.
+ghost use Rattle.std.specs.Prelude.{◌≡◌, ◌+◌, ◌/◌};
 
-// Fields of a layer: 0 for input switches and 1 for output switches; its network's first place, how many places, how far they lie
-// apart; the positions of that network's first input bit and of its first output bit.
-pub const KIND: usize = 0;
+use std::alloc::{AllocError, Global};
 
-pub const START: usize = 1;
-
-pub const SIZE: usize = 2;
-
-pub const APART: usize = 3;
-
-pub const FIRST: usize = 4;
-
-pub const LAST: usize = 5;
-
-pub(crate) fn of(layers: &[usize; 12288], j: usize, field: usize) -> usize {
-    layers[j % 2048 * 6 + field % 6]
-}
-
-fn add_layer(
-    layers: &mut [usize; 12288],
-    j: usize,
-    kind: usize,
-    o: usize,
-    m: usize,
-    apart: usize,
-    first: usize,
-    last: usize,
-) {
-    let i = j % 2048 * 6;
-    layers[i] = kind;
-    layers[i + 1] = o;
-    layers[i + 2] = m;
-    layers[i + 3] = apart;
-    layers[i + 4] = first;
-    layers[i + 5] = last;
+// A network: its first place, how many places, how far they lie apart; the positions of its first input bit and of its first output bit.
+#[derive(Clone, Copy)]
+pub(crate) struct Net {
+    pub start: u16,
+    pub size: u16,
+    pub apart: u16,
+    pub first: u16,
+    pub last: u16,
 }
 
 // m/2 rounded up.
-pub(crate) fn up(m: usize) -> usize {
+fn up(m: u16) -> u16
+    ensures { result + m / 2 ≡ m }
+{
     m - m / 2
 }
 
-pub(crate) fn less(x: usize) -> usize {
-    if x == 0 { 0 } else { x - 1 }
+impl Net {
+    pub(crate) fn pairs(self) -> u16 {
+        up(self.size)
+    }
+
+    // Where place i of the network lies.
+    pub(crate) fn place(self, i: u16) -> u16 {
+        self.start.wrapping_add(self.apart.wrapping_mul(i))
+    }
 }
 
-// ---- the tasks
+#[derive(Clone, Copy, PartialEq, Eq)]
+pub(crate) enum Kind {
+    Inputs,
+    Outputs,
+}
 
-// How many tasks wait, and how many layers and switches are listed.
+// The input switches or the output switches of a network.
 #[derive(Clone, Copy)]
-struct Point {
-    waiting: usize,
-    layers: usize,
-    switches: usize,
+pub(crate) struct Layer {
+    pub kind: Kind,
+    pub net: Net,
 }
 
-// A task: a network, or its output switches alone, where `begun` is the number of its input layer, from 1 on.
-fn push(stack: &mut [usize; 256], at: usize, o: usize, m: usize, apart: usize, begun: usize) {
-    let i = at % 64 * 4;
-    stack[i] = o;
-    stack[i + 1] = m;
-    stack[i + 2] = apart;
-    stack[i + 3] = begun;
-}
+impl Layer {
+    // How many switches it has, and the position of the first one's bit.
+    pub(crate) fn count(self) -> u16 {
+        match self.kind {
+            Kind::Inputs => self.net.pairs().saturating_sub(1),
+            Kind::Outputs => self.net.size / 2,
+        }
+    }
 
-fn task_of(stack: &[usize; 256], at: usize, field: usize) -> usize {
-    stack[at % 64 * 4 + field % 4]
-}
-
-// A network: its input switches are listed; its output switches wait, above them its bottom half, above that the top half. The halves
-// have every second place.
-fn begin(
-    p: Point,
-    stack: &mut [usize; 256],
-    layers: &mut [usize; 12288],
-    o: usize,
-    m: usize,
-    apart: usize,
-) -> Point {
-    let at = p.waiting;
-    let j = tally::add(p.layers, 1);
-    let far = apart << 1;
-    add_layer(layers, p.layers, 0, o, m, apart, p.switches, 0);
-    push(stack, at, o, m, apart, j);
-    push(
-        stack,
-        tally::add(at, 1),
-        tally::add(o, apart),
-        m / 2,
-        far,
-        0,
-    );
-    push(stack, tally::add(at, 2), o, up(m), far, 0);
-    Point {
-        waiting: tally::add(at, 3),
-        layers: j,
-        switches: tally::add(p.switches, less(up(m))),
+    pub(crate) fn bit(self) -> u16 {
+        match self.kind {
+            Kind::Inputs => self.net.first,
+            Kind::Outputs => self.net.last,
+        }
     }
 }
 
-// The output switches of the network whose input switches are layer j, which is told where they are.
-fn finish(
-    p: Point,
-    layers: &mut [usize; 12288],
-    o: usize,
-    m: usize,
-    apart: usize,
-    j: usize,
-) -> Point {
-    let first = of(layers, j, FIRST);
-    add_layer(layers, j, 0, o, m, apart, first, p.switches);
-    add_layer(layers, p.layers, 1, o, m, apart, first, p.switches);
-    Point {
-        waiting: p.waiting,
-        layers: tally::add(p.layers, 1),
-        switches: tally::add(p.switches, m / 2),
+// All layers of n places, and how many switches they have.
+#[derive(Drop)]
+pub(crate) struct Layers {
+    pub places: u16,
+    pub switches: u16,
+    pub all: Vec<Layer>,
+}
+
+// What is to be listed: a network, or the output switches of the one whose input switches are a layer.
+#[derive(Clone, Copy)]
+enum Task {
+    Network { start: u16, size: u16, apart: u16 },
+    Outputs { inputs: usize },
+}
+
+impl Layers {
+    fn push(&mut self, kind: Kind, net: Net) -> Result<(), AllocError> {
+        let layer = Layer { kind, net };
+        self.all.push(layer)?;
+        self.switches = self.switches.wrapping_add(layer.count());
+        Ok(())
+    }
+
+    // A network's input switches; its output switches wait, above them its bottom half, above that the top half. The halves have every
+    // second place. The input switches are told where the output switches are.
+    fn list(&mut self, task: Task, tasks: &mut Vec<Task>) -> Result<(), AllocError> {
+        match task {
+            Task::Network { start, size, apart } if 1 < size => {
+                let inputs = self.all.len();
+                let first = self.switches;
+                let net = Net {
+                    start,
+                    size,
+                    apart,
+                    first,
+                    last: 0,
+                };
+                self.push(Kind::Inputs, net)?;
+                tasks.push(Task::Outputs { inputs })?;
+                let apart = apart.wrapping_mul(2);
+                tasks.push(Task::Network {
+                    start: net.place(1),
+                    size: size / 2,
+                    apart,
+                })?;
+                tasks.push(Task::Network {
+                    start,
+                    size: up(size),
+                    apart,
+                })?;
+            }
+            Task::Network { .. } => {}
+            Task::Outputs { inputs } => {
+                if let Some(layer) = self.all.get_mut(inputs) {
+                    layer.net.last = self.switches;
+                    let net = layer.net;
+                    self.push(Kind::Outputs, net)?;
+                }
+            }
+        }
+        Ok(())
     }
 }
 
-// The task on top of the stack.
-fn task(p: Point, stack: &mut [usize; 256], layers: &mut [usize; 12288]) -> Point {
-    if p.waiting == 0 {
-        return p;
-    }
-    let at = p.waiting - 1;
-    let rest = Point {
-        waiting: at,
-        layers: p.layers,
-        switches: p.switches,
-    };
-    let o = task_of(stack, at, 0);
-    let m = task_of(stack, at, 1);
-    let apart = task_of(stack, at, 2);
-    let begun = task_of(stack, at, 3);
-    if begun != 0 {
-        return finish(rest, layers, o, m, apart, begun - 1);
-    }
-    if m < 2 {
-        return rest;
-    }
-    begin(rest, stack, layers, o, m, apart)
-}
-
-// All layers: a network of 1,024 places makes 3,070 tasks and 2,046 layers. Those behind the last have no places.
-pub(crate) fn list(n: usize) -> [usize; 12288] {
-    let mut stack = [0usize; 256];
-    let mut layers = [0usize; 12288];
-    push(&mut stack, 0, 0, n, 1, 0);
-    let mut p = Point {
-        waiting: 1,
-        layers: 0,
+// A network of 1,024 places makes 3,070 tasks.
+pub(crate) fn list(alloc: Global, n: u16) -> Result<Layers, AllocError> {
+    let mut layers = Layers {
+        places: n,
         switches: 0,
+        all: Vec::new(alloc),
     };
-    let mut turn: usize = 0;
-    while turn < 4096 {
-        p = task(p, &mut stack, &mut layers);
-        turn += 1;
+    let mut tasks = vec![in alloc;
+        Task::Network {
+            start: 0,
+            size: n,
+            apart: 1
+        },
+    ]?;
+    for _ in 0..4096 {
+        let Some(task) = tasks.pop() else {
+            break;
+        };
+        layers.list(task, &mut tasks)?;
     }
-    layers
-}
-
-// How many switches there are: the last ones are the output switches of the whole.
-pub(crate) fn switches(layers: &[usize; 12288]) -> usize {
-    tally::add(of(layers, 0, LAST), of(layers, 0, SIZE) / 2)
+    Ok(layers)
 }

@@ -1,92 +1,96 @@
 // Runs logs of mix and return on a list of places: where the bits are counted, and by the words of the entries alone.
-use crate::{calls, logs, orders};
-use tally::Tally;
+use crate::lists::Layers;
+use crate::logs::{self, Entry};
+use crate::orders::exchange;
+use std::alloc::{AllocError, Global};
 
-// The two places whose entry begins at `at` are exchanged where a bit is 1.
-fn act(a: &mut [u16; 1024], log: &[u16], at: usize, bits: &[u8; 9232], i: usize) {
-    if bits[i % 9217] == 1 {
-        orders::exchange(
-            a,
-            word(log, tally::add(at, 1)),
-            word(log, tally::add(at, 2)),
-        );
-    }
+// What mix or return is to do: its entries, each under the bit at its number, and a list of places before them and behind them.
+#[derive(Drop)]
+pub(crate) struct Moves {
+    pub entries: Vec<Entry>,
+    pub bits: Vec<u8>,
+    pub before: Vec<u16>,
+    pub behind: Vec<u16>,
 }
 
-fn word(log: &[u16], i: usize) -> usize {
-    if i < log.len() {
-        orders::wide(log[i])
-    } else {
-        0
-    }
+// Mixing by an order brings the order's entries home.
+pub(crate) fn mixing(
+    alloc: Global,
+    layers: &Layers,
+    order: &[u16],
+    bits: &[u8],
+) -> Result<Moves, AllocError> {
+    Ok(Moves {
+        entries: logs::moves(alloc, layers)?,
+        bits: bits.to_vec(alloc)?,
+        before: order.to_vec(alloc)?,
+        behind: (0..layers.places).collect(alloc)?,
+    })
 }
 
-// The first entries of a log of w, up to number `to`: the one with number e has bit e, or counted from the last.
-pub(crate) fn counted(
-    a: &mut [u16; 1024],
-    log: &[u16; 65552],
-    bits: &[u8; 9232],
-    w: usize,
-    to: usize,
-    back: bool,
-) {
-    let mut e = 0;
-    while e < to {
-        act(a, log, e % 16384 * 4, bits, logs::turned(e, w, back));
-        e += 1;
+impl Moves {
+    // Returning does the same backwards: it brings the places to where the order says.
+    pub(crate) fn returning(self) -> Moves {
+        let Moves {
+            mut entries,
+            mut bits,
+            before,
+            behind,
+        } = self;
+        entries.reverse();
+        bits.reverse();
+        Moves {
+            entries,
+            bits,
+            before: behind,
+            behind: before,
+        }
+    }
+
+    // The places behind the first entries, up to number `to`.
+    fn counted(&self, to: usize) -> Result<Vec<u16>, AllocError> {
+        let mut places = self.before.clone()?;
+        for ([_, lower, upper, _], bit) in self.entries.iter().zip(&self.bits).take(to) {
+            if *bit == 1 {
+                exchange(&mut places, usize::from(*lower), usize::from(*upper));
+            }
+        }
+        Ok(places)
+    }
+
+    pub(crate) fn run(&self) -> Result<Vec<u16>, AllocError> {
+        self.counted(self.entries.len())
+    }
+
+    // Up to entry e the moves are run, from there on a log that was written. Says whether that brings the places to where they have to be.
+    pub(crate) fn from_middle(
+        &self,
+        log: &[u16],
+        bits: &[u8],
+        e: usize,
+    ) -> Result<bool, AllocError> {
+        let mut places = self.counted(e)?;
+        let (entries, _) = log.as_chunks::<4>();
+        if let Some(rest) = entries.get(e..self.entries.len()) {
+            by_words(&mut places, rest, bits);
+        }
+        Ok(places == self.behind)
     }
 }
 
 // Entries one after the other, each under the bit at its own position. How many there were before them is not told.
-fn by_words(a: &mut [u16; 1024], entries: &[u16], bits: &[u8; 9232]) {
-    let count = entries.len() / 4;
-    let mut e = 0;
-    while e < count {
-        let at = e * 4;
-        if word(entries, at) == 7 {
-            act(a, entries, at, bits, word(entries, at + 3));
+fn by_words(places: &mut [u16], entries: &[Entry], bits: &[u8]) {
+    for [kind, lower, upper, position] in entries {
+        if *kind == 7 && bits.get(usize::from(*position)) == Some(&1) {
+            exchange(places, usize::from(*lower), usize::from(*upper));
         }
-        e += 1;
     }
 }
 
-// The entries from number e on of a log of w.
-fn rest(a: &mut [u16; 1024], log: &[u16], e: usize, w: usize, bits: &[u8; 9232]) {
-    let end = calls::least(w % 16384 * 4, log.len());
-    let start = calls::least(e % 16384 * 4, end);
-    by_words(a, &log[start..end], bits);
-}
-
-// Up to entry e a plain log is run, from there on a log that was written. Mixing by an order brings the order's entries home, returning
-// brings the places to where they say.
-pub(crate) fn from_middle(
-    t: Tally,
-    order: &[u16; 1024],
-    bits: &[u8; 9232],
-    w: usize,
-    plain: &[u16; 65552],
-    log: &[u16; 65552],
-    e: usize,
-    back: bool,
-) -> Tally {
-    let home = orders::places();
-    let mut a = if back { home } else { *order };
-    counted(&mut a, plain, bits, w, e, back);
-    rest(&mut a, log, e, w, bits);
-    let right = if back { *order } else { home };
-    tally::tallied(t, alike(&a, &right))
-}
-
-fn alike(a: &[u16; 1024], b: &[u16; 1024]) -> bool {
-    tally::same_words(a, b)
-}
-
 // An entry's number, up to w, drawn by an order and a width.
-pub(crate) fn drawn(order: &[u16; 1024], width: usize, w: usize) -> usize {
-    let x = seed(order[0], order[1], width);
-    orders::digit(tally::next(x), tally::add(w, 1))
-}
-
-fn seed(a: u16, b: u16, width: usize) -> u32 {
-    a as u32 * 1024 + b as u32 * 7 + (width % 512) as u32
+pub(crate) fn drawn(order: &[u16], width: u16, w: usize) -> usize {
+    let first = order.first().copied().unwrap_or(0);
+    let second = order.get(1).copied().unwrap_or(1);
+    let seed = u32::from(first) * 1024 + u32::from(second) * 7 + u32::from(width % 512);
+    tally::next(seed) as usize % w.saturating_add(1)
 }

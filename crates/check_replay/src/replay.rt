@@ -1,305 +1,228 @@
-// The steps of a setter's log, in either wiring, on a hidden table of its own: at each place trail × 2,048 + value, where a trail is a
-// number whose lowest binary digit is its last bit.
-use crate::nets;
-use crate::nets::Net;
+// The steps of a setter's log, in either wiring, on a hidden table of its own.
+use crate::nets::{self, Net};
+use check_cases::put;
+use std::alloc::{AllocError, Global};
+use wirings::Topology;
 
-// f, c, g, s of document 01, and the position of the bits that the next step writes or acts by. A plain walk counts it: a network's
-// input bits are passed in its step 4, its output bits in its step 6, and those of its halves between.
+// An entry's words: its kind, its network's first place and how many there are, the position of a bit.
+pub(crate) type Entry = [u16; 4];
+
+// What is at a place. The lowest binary digit of a trail is its last bit.
 #[derive(Clone, Copy)]
-pub struct Walk {
-    pub f: usize,
-    pub c: usize,
-    pub g: usize,
-    pub s: usize,
-    pub b: usize,
+struct Cell {
+    value: usize,
+    trail: usize,
 }
 
-// ---- the table
-
-// Where place i of a network lies in the whole.
-fn place(net: Net, i: usize) -> usize {
-    tally::add(net.o, i % 1024 << (net.level % 16)) % 1024
-}
-
-fn at(table: &[usize; 1024], net: Net, i: usize) -> usize {
-    let p = place(net, i);
-    table[p % 1024]
-}
-
-fn put(table: &mut [usize; 1024], net: Net, i: usize, x: usize) {
-    let p = place(net, i);
-    table[p % 1024] = x;
-}
-
-fn put_mark(marks: &mut [usize; 1024], i: usize, x: usize) {
-    marks[i % 1024] = x;
-}
-
-fn put_bit(bits: &mut [u8; counts::MOST_SWITCHES], i: usize, bit: bool) {
-    if i < 9217 {
-        bits[i] = bit as u8;
-    }
-}
-
-fn less(x: usize) -> usize {
-    if x == 0 { 0 } else { x - 1 }
-}
-
-// ---- the steps
-
-// The value at place p. Place m is imagined and holds value m.
-fn value(table: &[usize; 1024], net: Net, p: usize) -> usize {
-    if p < net.m {
-        at(table, net, p) % 2048
-    } else {
-        net.m
-    }
-}
-
-// The lowest of k pairs whose mark is x; else k.
-fn lowest(marks: &[usize; 1024], k: usize, x: usize) -> usize {
-    let mut i = 0;
-    while i < k {
-        if marks[i % 1024] == x {
-            return i;
-        }
-        i += 1;
-    }
-    k
-}
-
-// 1. If no pair is marked, f = c = k - 1, or 2k - 2 in the neighbour wiring. Then g is the value at f.
-fn step1(table: &[usize; 1024], marks: &[usize; 1024], net: Net, w: Walk) -> Walk {
-    let k = nets::up(net.m);
-    let mut f = w.f;
-    let mut c = w.c;
-    if lowest(marks, k, 1) == k {
-        f = nets::one_of(net.paper, k, less(k), false);
-        c = f;
-    }
-    Walk {
-        f,
-        c,
-        g: value(table, net, f),
-        s: w.s,
-        b: w.b,
-    }
-}
-
-// 2. s is the place that holds g's associate. Value m, for odd m, is held by the imagined place m.
-fn step2(table: &[usize; 1024], net: Net, w: Walk) -> Walk {
-    let associate = nets::other(net.paper, nets::up(net.m), w.g);
-    Walk {
-        f: w.f,
-        c: w.c,
-        g: w.g,
-        s: place_of(table, net, associate),
-        b: w.b,
-    }
-}
-
-fn place_of(table: &[usize; 1024], net: Net, v: usize) -> usize {
-    let m = net.m;
-    let mut p = 0;
-    while p < m {
-        if at(table, net, p) % 2048 == v {
-            return p;
-        }
-        p += 1;
-    }
-    m
-}
-
-// 3. If s's pair has an input switch, its bit is 1 where s is the lower place of it, else 0. The pair is marked and f is the other place
-// of it. If f = c and a pair is unmarked, f = c = the lower place of the lowest unmarked pair.
-fn step3(
-    marks: &mut [usize; 1024],
-    bits: &mut [u8; counts::MOST_SWITCHES],
-    net: Net,
-    w: Walk,
-) -> Walk {
-    let k = nets::up(net.m);
-    let s = w.s;
-    let mut f = nets::other(net.paper, k, s);
-    let mut c = w.c;
-    let i = nets::pair(net.paper, k, s);
-    if tally::add(i, 1) < k {
-        put_bit(bits, tally::add(w.b, i), !nets::upper(net.paper, k, s));
-    }
-    put_mark(marks, i, 1);
-    let low = lowest(marks, k, 0);
-    if f == c {
-        if low < k {
-            f = nets::one_of(net.paper, k, low, false);
-            c = f;
-        }
-    }
-    Walk {
-        f,
-        c,
-        g: w.g,
-        s,
-        b: w.b,
-    }
-}
-
-// Switch i acts on the table.
-fn swap(table: &mut [usize; 1024], net: Net, i: usize) {
-    let k = nets::up(net.m);
-    let p = nets::one_of(net.paper, k, i, false);
-    let q = nets::one_of(net.paper, k, i, true);
-    let x = at(table, net, p);
-    put(table, net, p, at(table, net, q));
-    put(table, net, q, x);
-}
-
-// The first c switches, under the bits from `first` on.
-fn act(
-    table: &mut [usize; 1024],
-    net: Net,
+// The table, a mark for each pair, the bits; f, c, g, s of document 01; and the position of the bits that the next step writes or acts
+// by. A plain walk counts it: a network's input bits are passed in its step 4, its output bits in its step 6, and those of its halves
+// between.
+#[derive(Drop)]
+pub(crate) struct Replay {
+    topology: Topology,
+    table: Vec<Cell>,
+    marks: Vec<bool>,
+    pub bits: Vec<u8>,
+    f: usize,
     c: usize,
-    bits: &[u8; counts::MOST_SWITCHES],
-    first: usize,
-) {
-    let mut i = 0;
-    while i < c {
-        if bits[tally::add(first, i) % 9217] == 1 {
-            swap(table, net, i);
-        }
-        i += 1;
-    }
+    g: usize,
+    s: usize,
+    bit: usize,
 }
 
-// 4. The input switches act on the table and all marks are cleared.
-fn step4(
-    table: &mut [usize; 1024],
-    marks: &mut [usize; 1024],
-    bits: &[u8; counts::MOST_SWITCHES],
-    net: Net,
-    first: usize,
-) {
-    let k = nets::up(net.m);
-    act(table, net, less(k), bits, first);
-    let mut i = 0;
-    while i < k {
-        put_mark(marks, i, 0);
-        i += 1;
-    }
-}
-
-// 5. Each value becomes the number of its pair, and gains 1 on its trail where it was the upper one of it, else 0.
-fn step5(table: &mut [usize; 1024], net: Net) {
-    let m = net.m;
-    let mut p = 0;
-    while p < m {
-        put(
+impl Replay {
+    // An order, and w bits that are all 0.
+    pub(crate) fn new(
+        alloc: Global,
+        topology: Topology,
+        order: &[u16],
+        w: usize,
+    ) -> Result<Replay, AllocError> {
+        let table = order
+            .iter()
+            .map(|place| Cell {
+                value: usize::from(*place),
+                trail: 0,
+            })
+            .collect(alloc)?;
+        let marks = vec![in alloc; false; order.len()]?;
+        let bits = vec![in alloc; 0; w]?;
+        Ok(Replay {
+            topology,
             table,
-            net,
-            p,
-            gained(net.paper, nets::up(m), at(table, net, p)),
-        );
-        p += 1;
-    }
-}
-
-fn gained(paper: bool, k: usize, cell: usize) -> usize {
-    let v = cell % 2048;
-    let trail = cell / 2048 % 2048 * 2;
-    let next = tally::add(trail * 2048, nets::pair(paper, k, v));
-    if nets::upper(paper, k, v) {
-        return tally::add(next, 2048);
-    }
-    next
-}
-
-// 6. For i = 0 to m-k-1, output bit i is the last trail bit at the lower place of pair i, and the switches act. Then every trail loses
-// its last bit and the value becomes that one of its pair which the bit says.
-fn step6(
-    table: &mut [usize; 1024],
-    bits: &mut [u8; counts::MOST_SWITCHES],
-    net: Net,
-    first: usize,
-) {
-    let m = net.m;
-    last_bits(table, bits, net, m / 2, first);
-    act(table, net, m / 2, bits, first);
-    let mut p = 0;
-    while p < m {
-        put(
-            table,
-            net,
-            p,
-            regained(net.paper, nets::up(m), at(table, net, p)),
-        );
-        p += 1;
-    }
-}
-
-fn last_bits(
-    table: &[usize; 1024],
-    bits: &mut [u8; counts::MOST_SWITCHES],
-    net: Net,
-    h: usize,
-    first: usize,
-) {
-    let k = nets::up(net.m);
-    let mut i = 0;
-    while i < h {
-        let p = nets::one_of(net.paper, k, i, false);
-        put_bit(
+            marks,
             bits,
-            tally::add(first, i),
-            at(table, net, p) / 2048 % 2 == 1,
-        );
-        i += 1;
+            f: 0,
+            c: 0,
+            g: 0,
+            s: 0,
+            bit: 0,
+        })
     }
-}
 
-fn regained(paper: bool, k: usize, cell: usize) -> usize {
-    let trail = cell / 2048;
-    let v = nets::one_of(paper, k, cell % 2048, trail % 2 == 1);
-    tally::add(trail / 2 * 2048, v)
-}
-
-pub(crate) fn at_bit(w: Walk, b: usize) -> Walk {
-    Walk {
-        f: w.f,
-        c: w.c,
-        g: w.g,
-        s: w.s,
-        b,
+    // Whether each place holds its own number, and no trail.
+    pub(crate) fn is_home(&self) -> bool {
+        self.table
+            .iter()
+            .enumerate()
+            .all(|(p, cell)| cell.value == p && cell.trail == 0)
     }
-}
 
-// A step was done that passed n bits.
-fn passed(w: Walk, n: usize) -> Walk {
-    at_bit(w, tally::add(w.b, n))
-}
+    // ---- the table
 
-// One entry: the step of its kind on its network.
-pub(crate) fn step(
-    table: &mut [usize; 1024],
-    marks: &mut [usize; 1024],
-    bits: &mut [u8; counts::MOST_SWITCHES],
-    net: Net,
-    kind: u16,
-    w: Walk,
-) -> Walk {
-    let b = w.b;
-    match kind {
-        1 => return step1(table, marks, net, w),
-        2 => return step2(table, net, w),
-        3 => return step3(marks, bits, net, w),
-        4 => {
-            step4(table, marks, bits, net, b);
-            return passed(w, less(nets::up(net.m)));
+    fn cell(&self, net: Net, i: usize) -> Cell {
+        let nothing = Cell { value: 0, trail: 0 };
+        self.table.get(net.place(i)).copied().unwrap_or(nothing)
+    }
+
+    // The value at place p. Place m is imagined and holds value m.
+    fn value(&self, net: Net, p: usize) -> usize {
+        if p < net.size {
+            self.cell(net, p).value
+        } else {
+            net.size
         }
-        5 => step5(table, net),
-        6 => {
-            step6(table, bits, net, b);
-            return passed(w, net.m / 2);
-        }
-        _ => {}
     }
-    w
+
+    // The place that holds a value.
+    fn place_of(&self, net: Net, value: usize) -> usize {
+        for p in 0..net.size {
+            if self.cell(net, p).value == value {
+                return p;
+            }
+        }
+        net.size
+    }
+
+    // The lowest of the pairs that is marked, or that is not.
+    fn lowest(&self, net: Net, mark: bool) -> Option<usize> {
+        self.marks.iter().take(net.pairs()).position(|m| *m == mark)
+    }
+
+    // ---- the steps
+
+    // 1. If no pair is marked, f = c = k - 1, or 2k - 2 in the neighbour wiring. Then g is the value at f.
+    fn step1(&mut self, net: Net) {
+        if self.lowest(net, true) == None {
+            self.f = net.one_of(net.pairs().saturating_sub(1), false);
+            self.c = self.f;
+        }
+        self.g = self.value(net, self.f);
+    }
+
+    // 2. s is the place that holds g's associate. Value m, for odd m, is held by the imagined place m.
+    fn step2(&mut self, net: Net) {
+        self.s = self.place_of(net, net.other(self.g));
+    }
+
+    // 3. If s's pair has an input switch, its bit is 1 where s is the lower place of it, else 0. The pair is marked and f is the other
+    // place of it. If f = c and a pair is unmarked, f = c = the lower place of the lowest unmarked pair.
+    fn step3(&mut self, net: Net) {
+        let i = net.pair(self.s);
+        if i.wrapping_add(1) < net.pairs() {
+            let bit = u8::from(!net.is_upper(self.s));
+            put(&mut self.bits, self.bit.wrapping_add(i), bit);
+        }
+        put(&mut self.marks, i, true);
+        self.f = net.other(self.s);
+        if self.f == self.c {
+            if let Some(low) = self.lowest(net, false) {
+                self.f = net.one_of(low, false);
+                self.c = self.f;
+            }
+        }
+    }
+
+    // The first switches act on the table, under the bits that are next, which are passed.
+    fn act(&mut self, net: Net, switches: usize) {
+        for i in 0..switches {
+            if self.bits.get(self.bit.wrapping_add(i)) == Some(&1) {
+                let p = net.place(net.one_of(i, false));
+                let q = net.place(net.one_of(i, true));
+                if p < self.table.len() && q < self.table.len() {
+                    self.table.swap(p, q);
+                }
+            }
+        }
+        self.bit = self.bit.wrapping_add(switches);
+    }
+
+    // 4. The input switches act on the table and all marks are cleared.
+    fn step4(&mut self, net: Net) {
+        self.act(net, net.pairs().saturating_sub(1));
+        self.marks.fill(false);
+    }
+
+    // 5. Each value becomes the number of its pair, and gains 1 on its trail where it was the upper one of it, else 0.
+    fn step5(&mut self, net: Net) {
+        for p in 0..net.size {
+            let Cell { value, trail } = self.cell(net, p);
+            let gained = Cell {
+                value: net.pair(value),
+                trail: trail.wrapping_mul(2) | usize::from(net.is_upper(value)),
+            };
+            put(&mut self.table, net.place(p), gained);
+        }
+    }
+
+    // 6. For i = 0 to m-k-1, output bit i is the last trail bit at the lower place of pair i, and the switches act. Then every trail
+    // loses its last bit and the value becomes that one of its pair which the bit says.
+    fn step6(&mut self, net: Net) {
+        for i in 0..net.size / 2 {
+            let upper = self.cell(net, net.one_of(i, false)).trail % 2 == 1;
+            put(&mut self.bits, self.bit.wrapping_add(i), u8::from(upper));
+        }
+        self.act(net, net.size / 2);
+        for p in 0..net.size {
+            let Cell { value, trail } = self.cell(net, p);
+            let regained = Cell {
+                value: net.one_of(value, trail % 2 == 1),
+                trail: trail / 2,
+            };
+            put(&mut self.table, net.place(p), regained);
+        }
+    }
+
+    // ---- the entries
+
+    // One entry: the step of its kind on its network.
+    fn step(&mut self, entry: &Entry) {
+        let [kind, o, m, _] = *entry;
+        let net = nets::find(self.topology, self.table.len(), o, m);
+        match kind {
+            1 => self.step1(net),
+            2 => self.step2(net),
+            3 => self.step3(net),
+            4 => self.step4(net),
+            5 => self.step5(net),
+            6 => self.step6(net),
+            _ => {}
+        }
+    }
+
+    // A plain walk: entries from the first one on.
+    pub(crate) fn walk(&mut self, entries: &[Entry]) {
+        for entry in entries {
+            self.step(entry);
+        }
+    }
+
+    // Entries one after the other, each by its own words. How many there were before them is not told.
+    pub(crate) fn run_by_words(&mut self, entries: &[Entry]) {
+        for entry in entries {
+            self.bit = named(entry);
+            self.step(entry);
+        }
+    }
+}
+
+// Where a step's bits begin, by the words of its entry: those of step 6 are the last of its network's.
+fn named(entry: &Entry) -> usize {
+    let [kind, _, m, bit] = *entry;
+    let bit = usize::from(bit);
+    let m = usize::from(m);
+    if kind != 6 || 1024 < m {
+        return bit;
+    }
+    (bit + counts::switches(m)).wrapping_sub(m / 2)
 }

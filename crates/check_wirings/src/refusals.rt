@@ -2,7 +2,7 @@
 // in sequence is the one named, and all buffers stay as they were.
 ghost use Rattle.std.specs.Prelude.{◌<◌, ◌≤◌, max};
 
-use answers::Answer;
+use answers::Refusal;
 use tally::Tally;
 use wirings::Topology;
 
@@ -44,9 +44,9 @@ impl Faults {
 }
 
 // Entries and bytes are bad from place 2 on.
-fn is_refused(answer: Answer, number: usize) -> bool {
+fn is_refused(answer: Result<usize, Refusal>, number: usize) -> bool {
     let place = if 5 < number { 2 } else { 0 };
-    tally::answered(answer, number, place, 0)
+    tally::refused(answer, number, place)
 }
 
 // ---- set: 1, 4, 5, 6
@@ -94,7 +94,7 @@ fn setting(bad: bool) -> [u8; 16] {
 
 fn of_move<F>(tally: &mut Tally, faults: Faults, call: F)
 where
-    F: Fn(Topology, usize, usize, &mut [u8], &[u8], &mut [u16]) -> Answer,
+    F: Fn(Topology, usize, usize, &mut [u8], &[u8], &mut [u16]) -> Result<usize, Refusal>,
     requires { F.IsAlwaysCallable call }
 {
     if !faults.are_among(0b1011_1111) {

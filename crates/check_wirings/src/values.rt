@@ -1,5 +1,5 @@
 // Values that are written down for the neighbour wiring.
-use answers::Answer;
+use answers::Refusal;
 use std::alloc::{AllocError, Global};
 use tally::Tally;
 use wirings::Topology;
@@ -102,7 +102,7 @@ fn logged<F>(
     right: &[[u16; 4]],
 ) -> Result<(), AllocError>
 where
-    F: Fn(Topology, usize, usize, &mut [u8], &[u8], &mut [u16]) -> Answer,
+    F: Fn(Topology, usize, usize, &mut [u8], &[u8], &mut [u16]) -> Result<usize, Refusal>,
     requires { F.IsAlwaysCallable call }
 {
     let mut blocks = vec![in alloc; 1; n]?;
