@@ -104,7 +104,7 @@ module _ (n : ℕ) (order : List ℕ) (small : n ≤ 1024) (D : Demand2 Paper n 
     shows_so O out =
         let text = setting_text n (take (W n) (overlay buffer 0 setting)) in
         let is : outcome (accepted (length text)) (overlay out 0 text) ≡ show_call made out =
-        show_done made out buffer read refl (record { place = omega arith; buffer = refl }) refl
+        show_done made out buffer {s = size} read (record { place = omega arith; buffer = refl })
         in
         sym is ∙ ap (λ t. outcome (accepted (length t)) (overlay out 0 t)) (text_is O)
 
