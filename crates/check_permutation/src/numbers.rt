@@ -1,92 +1,82 @@
 // The number that a record carries, of entries that stay home: true and false ones, under every call that takes a record.
-ghost use Rattle.std.specs.Prelude.{◌≤◌};
-
 use crate::{check_calls, check_exchange, draws, plain, refusals};
 use records::Permutation;
+use std::alloc::{AllocError, Global};
 use tally::Tally;
 
-const LAST: usize = 18446744073709551615;
-
 // One permutation with a false number: it is told where it is asked for, and else refused as bad at place 1,024.
-fn of_false(t: Tally, e: [u16; 1024], n: usize, number: usize) -> Tally {
-    let p = plain::numbered(e, n, number);
-    refusals::of_record(told(t, p), p, 6, 1024)
+fn of_false(tally: &mut Tally, list: &[u16], number: usize) {
+    let p = plain::numbered(list, number);
+    told(tally, p);
+    refusals::of_record(tally, p, 6, 1024);
 }
 
 // One permutation with each false number from 0 to n + 1.
-pub(crate) fn of_permutation(before: Tally, e: [u16; 1024], n: usize) -> Tally
-    requires { n ≤ 1024 }
-{
-    let right = plain::fixed(&e, n);
-    let mut t = before;
-    let mut number = 0;
-    while number < n + 2 {
+pub(crate) fn of_permutation(tally: &mut Tally, list: &[u16]) {
+    let right = plain::fixed(list);
+    for number in 0..list.len() + 2 {
         if number != right {
-            t = of_false(t, e, n, number);
+            of_false(tally, list, number);
         }
-        number += 1;
     }
-    t
 }
 
 // 1,024 places: the calls do their work with the true number. False are its neighbours, and two that differ from it only above
 // 16 and above 32 bits.
-fn of_large(t: Tally, e: [u16; 1024]) -> Tally {
-    let f = plain::fixed(&e, 1024);
-    let t1 = of_false(t, e, 1024, tally::add(f, 1));
-    let t2 = of_false(t1, e, 1024, tally::add(f, LAST));
-    let t3 = of_false(t2, e, 1024, tally::add(f, 65536));
-    let t4 = of_false(t3, e, 1024, tally::add(f, 4294967296));
-    check_exchange(
-        check_calls(t4, e, plain::rotation(1024), 1024),
-        e,
-        1024,
-        0,
-        1,
-    )
-}
-
-fn large(t: Tally) -> Tally {
-    let t1 = of_large(t, plain::identity(1024));
-    let t2 = of_large(t1, plain::rotation(1024));
-    of_large(t2, draws::order(1024, 1024))
+fn of_large(alloc: Global, tally: &mut Tally, list: &[u16]) -> Result<(), AllocError> {
+    let right = plain::fixed(list);
+    for more in [1, usize::MAX, 65536, 4294967296] {
+        of_false(tally, list, right.wrapping_add(more));
+    }
+    check_calls(alloc, tally, list, &plain::rotation(alloc, 1024)?)?;
+    check_exchange(alloc, tally, list, 0, 1)
 }
 
 // ---- the asking of records that no other call takes
 
 // The number that the record carries, whatever its entries.
-fn told(t: Tally, p: Permutation) -> Tally {
-    plain::asked(t, p.fixed_points(), p)
+fn told(tally: &mut Tally, p: Permutation) {
+    tally.count(p.fixed_points() == plain::asked(p));
 }
 
-// A bad entry with its true number, with one more, and with one less (below 0 the last one).
-fn of_bad(t: Tally, n: usize, i: usize, x: u16) -> Tally {
-    let t1 = told(t, refusals::spoiled(n, i, x, 0));
-    let t2 = told(t1, refusals::spoiled(n, i, x, 1));
-    told(t2, refusals::spoiled(n, i, x, LAST))
-}
+// A length, and one entry of an ill-formed record.
+const BAD: [(usize, usize, u16); 5] = [
+    (3, 1, 3),
+    (3, 2, 0),
+    (3, 5, 1),
+    (1024, 1023, 7),
+    (0, 1023, 1),
+];
 
-// Longer than 1,024: refused, and it comes back.
-fn of_long(t: Tally, n: usize, number: usize) -> Tally {
-    let p = plain::numbered([9u16; 1024], n, number);
-    plain::compare(t, p.fixed_points(), 1, 0, p)
-}
+// A length above 1,024, and a number.
+const LONG: [(usize, usize); 4] = [
+    (1025, 0),
+    (1025, 1025),
+    (65536, 1024),
+    (usize::MAX, usize::MAX),
+];
 
-fn of_longs(t: Tally) -> Tally {
-    let t1 = of_long(t, 1025, 0);
-    let t2 = of_long(t1, 1025, 1025);
-    let t3 = of_long(t2, 65536, 1024);
-    of_long(t3, LAST, LAST)
-}
+pub(crate) fn all(alloc: Global) -> Result<Tally, AllocError> {
+    let mut tally = Tally::new();
+    of_large(alloc, &mut tally, &plain::identity(alloc, 1024)?)?;
+    of_large(alloc, &mut tally, &plain::rotation(alloc, 1024)?)?;
+    of_large(alloc, &mut tally, &draws::order(alloc, 1024, 1024)?)?;
 
-fn askings(t: Tally) -> Tally {
-    let t1 = of_bad(t, 3, 1, 3);
-    let t2 = of_bad(t1, 3, 2, 0);
-    let t3 = of_bad(t2, 3, 5, 1);
-    let t4 = of_bad(t3, 1024, 1023, 7);
-    of_longs(of_bad(t4, 0, 1023, 1))
-}
+    // With the true number, with one more, and with one less (below 0 the last one).
+    for (n, i, x) in BAD {
+        for off in [0, 1, usize::MAX] {
+            told(&mut tally, refusals::spoiled(n, i, x, off));
+        }
+    }
 
-pub(crate) fn all(t: Tally) -> Tally {
-    askings(large(t))
+    // Refused, and it comes back.
+    for (length, fixed) in LONG {
+        let p = Permutation {
+            length,
+            entries: [9; 1024],
+            fixed,
+        };
+        tally.count(p.fixed_points() == plain::refused(1, 0, p));
+    }
+    Ok(tally)
 }
