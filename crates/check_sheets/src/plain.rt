@@ -1,253 +1,177 @@
 // A second writer and reader of sheets, written plainly and with no promise: bits are weighed and taken one by one, and
-// each byte is put or skipped by its own test.
+// refusals are 01's numbers.
 ghost use Rattle.std.specs.Prelude.{◌≤◌, length};
 
 use answers::Answer;
+use numbers::Number;
+use std::alloc::{AllocError, Global};
 
-pub(crate) fn answer(number: usize, place: usize, count: usize) -> Answer {
+fn refused(number: usize, place: usize) -> Answer {
     Answer {
         number,
         place,
+        count: 0,
+    }
+}
+
+fn accepted(count: usize) -> Answer {
+    Answer {
+        number: 0,
+        place: 0,
         count,
     }
 }
 
-fn wide(x: u8) -> usize {
-    x as usize
-}
-
 // The switch count of n places: for each i from 1 to n the least l with i at most 2 to the l, summed.
-pub(crate) fn switches(n: usize) -> usize {
-    let mut total: usize = 0;
-    let mut l: usize = 0;
-    let mut power: usize = 1;
-    let mut i: usize = 0;
-    while i < n {
-        i += 1;
+pub(crate) fn switches(n: usize) -> usize
+    requires { n ≤ 1024 }
+{
+    let mut total = 0usize;
+    let mut l = 0usize;
+    let mut power = 1usize;
+    for i in 1..=n {
         if power < i {
-            l = tally::add(l, 1);
-            power = tally::add(power, power);
+            l = l.wrapping_add(1);
+            power = power.wrapping_add(power);
         }
-        total = tally::add(total, l);
+        total = total.wrapping_add(l);
     }
     total
 }
 
-pub(crate) fn byte(s: &[u8], at: usize) -> usize {
-    if at < s.len() { wide(s[at]) } else { 0 }
-}
-
-pub(crate) fn put(out: &mut [u8], at: usize, x: usize) {
-    if at < out.len() {
-        out[at] = (x % 256) as u8;
-    }
-}
-
-pub(crate) fn copy(from: &[u8], n: usize, out: &mut [u8]) {
-    let mut i = 0;
-    while i < n {
-        put(out, i, byte(from, i));
-        i += 1;
-    }
-}
-
 // ---- writing
 
-fn put_number(out: &mut [u8], at: usize, v: usize) -> usize {
-    if v / 128 == 0 {
-        put(out, at, v);
-        return tally::add(at, 1);
+// One byte, or two.
+fn push_number(sheet: &mut Vec<u8>, number: usize) -> Result<(), AllocError> {
+    if number < 128 {
+        sheet.push(number as u8)?;
+    } else {
+        sheet.push((number % 128 + 128) as u8)?;
+        sheet.push((number / 128 % 256) as u8)?;
     }
-    put(out, at, v % 128 + 128);
-    put(out, tally::add(at, 1), v / 128);
-    tally::add(at, 2)
+    Ok(())
 }
 
-// The bits from one place to another, the first of weight 1.
-fn weigh(bits: &[u8], from: usize, to: usize) -> usize {
-    let mut value: usize = 0;
-    let mut weight: usize = 1;
-    let mut i = from;
-    while i < to {
-        if byte(bits, i) == 1 {
-            value = tally::add(value, weight);
+// The first bit has weight 1.
+fn weigh(bits: &[u8]) -> usize {
+    let mut value = 0usize;
+    let mut weight = 1usize;
+    for bit in bits {
+        if *bit == 1 {
+            value = value.wrapping_add(weight);
         }
-        weight = tally::add(weight, weight);
-        i += 1;
+        weight = weight.wrapping_add(weight);
     }
     value
 }
 
-pub(crate) fn sheet(n: usize, bits: &[u8], out: &mut [u8]) -> usize
-    requires { length bits.now ≤ 10000 }
-{
-    let first = put_number(out, 0, 1);
-    let mut at = put_number(out, first, n);
-    let mut i = 0;
-    while i < bits.len() {
-        at = put_number(out, at, weigh(bits, i, i + 14));
-        i += 14;
+pub(crate) fn sheet(alloc: Global, n: usize, bits: &[u8]) -> Result<Vec<u8>, AllocError> {
+    let mut sheet = Vec::new(alloc);
+    push_number(&mut sheet, 1)?;
+    push_number(&mut sheet, n)?;
+    for group in bits.chunks(14) {
+        push_number(&mut sheet, weigh(group))?;
     }
-    at
+    Ok(sheet)
 }
 
-fn first_bad(bits: &[u8]) -> usize {
-    let mut i = 0;
-    while i < bits.len() {
-        if 1 < bits[i] {
-            return i;
-        }
-        i += 1;
-    }
-    i
-}
-
-pub(crate) fn write(n: usize, bits: &[u8], out: &mut [u8]) -> Answer
-    requires { length bits.now ≤ 10000 }
-{
+pub(crate) fn write(
+    alloc: Global,
+    n: usize,
+    bits: &[u8],
+    out: &mut [u8],
+) -> Result<Answer, AllocError> {
     if 1024 < n {
-        return answer(1, 0, 0);
+        return Ok(refused(1, 0));
     }
     if bits.len() != switches(n) {
-        return answer(4, 0, 0);
+        return Ok(refused(4, 0));
     }
-    let bad = first_bad(bits);
-    if bad < bits.len() {
-        return answer(7, bad, 0);
+    if let Some(bad) = bits.iter().position(|bit| 1 < *bit) {
+        return Ok(refused(7, bad));
     }
-    let mut made = [0u8; 1400];
-    let end = sheet(n, bits, &mut made);
-    if out.len() < end {
-        return answer(13, 0, 0);
+    let sheet = sheet(alloc, n, bits)?;
+    if out.len() < sheet.len() {
+        return Ok(refused(13, 0));
     }
-    copy(&made, end, out);
-    answer(0, 0, end)
+    out[..sheet.len()].copy_from_slice(&sheet);
+    Ok(accepted(sheet.len()))
 }
 
 // ---- reading
 
-#[derive(Clone, Copy)]
-pub struct Found {
-    pub number: usize,
-    pub place: usize,
-    pub value: usize,
-    pub next: usize,
+fn byte_at(sheet: &[u8], at: usize) -> Option<usize> {
+    sheet.get(at).map(|byte| usize::from(*byte))
 }
 
-fn refused(number: usize, place: usize) -> Found {
-    Found {
-        number,
-        place,
-        value: 0,
-        next: 0,
+pub(crate) fn number_at(sheet: &[u8], at: usize) -> Result<Number, Answer> {
+    let no_byte = refused(8, sheet.len());
+    let low = byte_at(sheet, at).ok_or(no_byte)?;
+    if low < 128 {
+        return Ok(Number {
+            value: low,
+            next: at.wrapping_add(1),
+        });
+    }
+    let high = byte_at(sheet, at.wrapping_add(1)).ok_or(no_byte)?;
+    if high == 0 || 128 <= high {
+        return Err(refused(9, at));
+    }
+    Ok(Number {
+        value: (low % 128).wrapping_add(high.wrapping_mul(128)),
+        next: at.wrapping_add(2),
+    })
+}
+
+fn unpack(number: usize, bits: &mut [u8]) {
+    let mut rest = number;
+    for bit in bits.iter_mut() {
+        *bit = (rest % 2) as u8;
+        rest /= 2;
     }
 }
 
-pub(crate) fn number_at(s: &[u8], at: usize) -> Found {
-    if at < s.len() {
-        let low = wide(s[at]);
-        if low / 128 == 0 {
-            return Found {
-                number: 0,
-                place: 0,
-                value: low,
-                next: tally::add(at, 1),
-            };
-        }
-        return second(s, at, low % 128);
-    }
-    refused(8, s.len())
-}
-
-fn second(s: &[u8], at: usize, low: usize) -> Found {
-    let then = tally::add(at, 1);
-    if then < s.len() {
-        let high = wide(s[then]);
-        if 0 < high {
-            if high < 128 {
-                return Found {
-                    number: 0,
-                    place: 0,
-                    value: tally::add(low, high * 128),
-                    next: tally::add(at, 2),
-                };
-            }
-        }
-        return refused(9, at);
-    }
-    refused(8, s.len())
-}
-
-fn unpack(out: &mut [u8], from: usize, v: usize) {
-    let mut rest = v;
-    let mut j = 0;
-    while j < 14 {
-        put(out, tally::add(from, j), rest % 2);
-        rest = rest / 2;
-        j += 1;
-    }
-}
-
-fn zero(bits: &[u8], from: usize) -> bool {
-    let mut i = from;
-    while i < bits.len() {
-        if bits[i] != 0 {
-            return false;
-        }
-        i += 1;
-    }
-    true
-}
-
-// The bits of a sheet of n places that begin at a place.
-fn read_bits(s: &[u8], n: usize, start: usize, w: usize, out: &mut [u8]) -> Answer
-    requires { w ≤ 9217 }
+// The w bits that begin at a place of the sheet, over the front of out.
+fn read_bits(sheet: &[u8], start: usize, w: usize, out: &mut [u8]) -> Result<(), Answer>
+    requires { (w ≤ 9217) × (w ≤ length out.old) }
 {
-    let mut found = [0u8; 10000];
+    let mut found = [0u8; 659 * 14];
     let mut last = start;
     let mut at = start;
-    let mut i = 0;
-    while i < w {
-        let r = number_at(s, at);
-        if r.number != 0 {
-            return answer(r.number, r.place, 0);
-        }
-        unpack(&mut found, i, r.value);
+    for group in found.chunks_exact_mut(14).take(w.div_ceil(14)) {
+        let number = number_at(sheet, at)?;
+        unpack(number.value, group);
         last = at;
-        at = r.next;
-        i += 14;
+        at = number.next;
     }
-    if !zero(&found, w) {
-        return answer(11, last, 0);
+    if found[w..].iter().any(|bit| *bit != 0) {
+        return Err(refused(11, last));
     }
-    if at < s.len() {
-        return answer(12, at, 0);
+    if at < sheet.len() {
+        return Err(refused(12, at));
     }
-    copy(&found, w, out);
-    answer(0, 0, n)
+    out[..w].copy_from_slice(&found[..w]);
+    Ok(())
 }
 
-pub(crate) fn read(s: &[u8], out: &mut [u8]) -> Answer {
-    let form = number_at(s, 0);
-    if form.number != 0 {
-        return answer(form.number, form.place, 0);
-    }
+// The number of places, or the refusal.
+pub(crate) fn read(sheet: &[u8], out: &mut [u8]) -> Result<usize, Answer> {
+    let form = number_at(sheet, 0)?;
     if form.value != 1 {
-        return answer(10, 0, 0);
+        return Err(refused(10, 0));
     }
-    let places = number_at(s, form.next);
-    if places.number != 0 {
-        return answer(places.number, places.place, 0);
+    let places = number_at(sheet, form.next)?;
+    let n = places.value;
+    if 1024 < n {
+        return Err(refused(1, 0));
     }
-    if 1024 < places.value {
-        return answer(1, 0, 0);
-    }
-    let w = switches(places.value);
+    let w = switches(n);
     if out.len() < w {
-        return answer(4, 0, 0);
+        return Err(refused(4, 0));
     }
     if 9217 < w {
-        return answer(99, 0, 0);
+        return Err(refused(99, 0));
     }
-    read_bits(s, places.value, places.next, w, out)
+    read_bits(sheet, places.next, w, out)?;
+    Ok(n)
 }
