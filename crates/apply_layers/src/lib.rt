@@ -101,7 +101,7 @@ impl Direction for Backward {
         let mut to = e;
         for i in (0..c).rev() {
             x -= next;
-            let s = bits[first..][i];
+            let s = bits[first + i];
             let a = i * stride;
             exchange_blocks::exchange_whole(blocks, whole, a, across, s);
             exchange_blocks::exchange_rest(blocks, rest, a + whole, across, s);

@@ -8,7 +8,7 @@ use Rattle.bits.specs.Bits.{Bits}
 use Rattle.network.specs.Log.{entry_words}
 use Rattle.entry_log.proofs.Written.{packed-written}
 use Rattle.apply_layers.proofs.Blocks.{within, past_near, few_fit, both_parts}
-use Rattle.apply_layers.proofs.Packing.{bit-under, switch-above, switch-before}
+use Rattle.apply_layers.proofs.Packing.{switch-above, switch-before}
 use Rattle.apply_layers.proofs.Runs.{leads_more, leads_none}
 use Rattle.apply_layers.proofs.BackwardDirection.in_parts.Goals as goal
 
@@ -57,10 +57,8 @@ overflow_mul-a c = omega (arith, (within c.requires.0 c.requires.1 (c.loop-i.i -
 pub exchange_whole-requires : goal.exchange_whole-requires
 unfolding Bits
 exchange_whole-requires c = let p = c.requires in
-    let a = c.args in
-    let bit = bit-under (length a.bits.now - (a.e + a.c)) (length a.bits.now - (length a.bits.now - (a.e + a.c))) (c.loop-i.i - 1) a.bits.now (omega (arith, c.requires.0.enough)) in
     let x = within c.requires.0 c.requires.1 (c.loop-i.i - 1) (omega arith) in
-    (rw bit (p.0.settings _), p.3, omega (arith, x.apart, p.2), omega (arith, x.ends, p.2))
+    (p.0.settings _, p.3, omega (arith, x.apart, p.2), omega (arith, x.ends, p.2))
 
 pub overflow_add-a : goal.overflow_add-a
 overflow_add-a c = omega (arith, (within c.requires.0 c.requires.1 (c.loop-i.i - 1) (omega arith)).ends, c.requires.2)
@@ -68,14 +66,11 @@ overflow_add-a c = omega (arith, (within c.requires.0 c.requires.1 (c.loop-i.i -
 pub exchange_rest-requires : goal.exchange_rest-requires
 unfolding Bits
 exchange_rest-requires c = let p = c.requires in
-    let a = c.args in
-    let bit = bit-under (length a.bits.now - (a.e + a.c)) (length a.bits.now - (length a.bits.now - (a.e + a.c))) (c.loop-i.i - 1) a.bits.now (omega (arith, c.requires.0.enough)) in
     let x = within c.requires.0 c.requires.1 (c.loop-i.i - 1) (omega arith) in
-    (rw bit (p.0.settings _), omega (arith, x.apart, p.2), omega (arith, x.ends, p.2, c.exchange_whole.auto.blocks))
+    (p.0.settings _, omega (arith, x.apart, p.2), omega (arith, x.ends, p.2, c.exchange_whole.auto.blocks))
 
 pub loop-i-preserved : goal.loop-i-preserved
 loop-i-preserved c = let a = c.args in
-    let bit = bit-under (length a.bits.now - (a.e + a.c)) (length a.bits.now - (length a.bits.now - (a.e + a.c))) (c.loop-i.i - 1) a.bits.now (omega (arith, c.requires.0.enough)) in
     let j = c.loop-i.i - 1 in
     let first = length a.bits.now - (a.e + a.c) in
     let i : c.loop-i.i ≡ suc j = omega arith in
@@ -89,7 +84,7 @@ loop-i-preserved c = let a = c.args in
           i (omega arith) c.loop-i.invariant.0.1.1.0 k (omega (arith, c.requires.0.room, c.loop-i.invariant.0)) c.loop-i.invariant.2
           (both_parts a.width a.whole a.rest (j * (a.step * a.width)) (a.gap * a.width)
           (get_or a.bits.now (first + j) 0) c.loop-i.blocks c.exchange_whole.new.blocks c.exchange_rest.new.blocks c.requires.2
-          (rw bit at c.exchange_whole.ensures) (rw bit at c.exchange_rest.ensures))
+          c.exchange_whole.ensures c.exchange_rest.ensures)
           (packed-written c.loop-i.log c.write_packed.new.log (entry_words * c.loop-i.to) _ 7 (a.o + j * a.step)
           (a.o + (j * a.step + a.gap)) (first + j) now (omega arith) (omega (arith, place)) (omega (arith, place))
           c.write_packed.ensures),
