@@ -1,7 +1,7 @@
 // What the check programs compare and count with; no part of the mixer.
 #![tactic(auto)]
 
-ghost use Rattle.std.specs.Prelude.{◌≡◌, ◌+◌, ◌%◌, ◌^◌, ◌≤◌, ◌↔◌, IsTrue, true, slice_index};
+ghost use Rattle.std.specs.Prelude.{◌≡◌, ◌+◌, ◌%◌, ◌^◌, ◌≤◌, ◌↔◌, IsTrue};
 ghost use Rattle.answers.specs.Answers.{answer_from, refusal};
 ghost use Rattle.tally.specs.Tallies.{nothing, one, counted, block_bytes, random, scrambled, after, Holds};
 
@@ -110,58 +110,4 @@ pub fn words(seed: u32) -> [u32; 1024]
         *word = x;
     }
     out
-}
-
-// The same numbers, wider.
-pub fn widened(words: &[u16; 1024]) -> [usize; 1024]
-    ensures { Holds (λ i. slice_index words.now i) 1024 result }
-{
-    words.map(|word| usize::from(word))
-}
-
-// ---- the older names
-
-pub fn none() -> Tally
-    ensures { result ≡ nothing }
-{
-    Tally::new()
-}
-
-pub fn tallied(t: Tally, same: bool) -> Tally
-    ensures { result ≡ counted t same }
-{
-    let mut more = t;
-    more.count(same);
-    more
-}
-
-// Whether two answers are the same: true is said of such, and only of such.
-pub fn same_answer(a: Answer, b: Answer) -> bool
-    ensures { (result ≡ true → a ≡ b) × (a ≡ b → result ≡ true) }
-{
-    a == b
-}
-
-// Whether two slices hold the same words: true is said of such, and only of such.
-pub fn same_words(a: &[u16], b: &[u16]) -> bool
-    ensures { (result ≡ true → a.now ≡ b.now) × (a.now ≡ b.now → result ≡ true) }
-{
-    a == b
-}
-
-// The sum in a machine's word: it wraps.
-pub fn add(a: usize, b: usize) -> usize
-    ensures { result ≡ (a + b) % 2 ^ 64 }
-{
-    a.wrapping_add(b)
-}
-
-// A line with both numbers. What is written out cannot be promised.
-pub fn print(label: &[u8], t: Tally) {
-    io::write_all(1, label);
-    io::write_all(1, b": compared ");
-    io::print_decimal(1, t.compared);
-    io::write_all(1, b", equal ");
-    io::print_decimal(1, t.equal);
-    io::write_all(1, b"\n");
 }
