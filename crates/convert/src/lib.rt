@@ -11,7 +11,7 @@ ghost use Rattle.convert.specs.Calls.{across, convert_call};
 use answers::{Reason, Refusal};
 use wirings::Topology;
 
-// The other wiring.
+// The other wiring. No method of `Topology`: only the converter asks for it.
 fn other_wiring(t: Topology) -> Topology
     ensures { result ≡ across t }
 {

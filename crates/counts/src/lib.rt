@@ -56,6 +56,8 @@ pub fn switches_by_halves(n: u32) -> u64
 
 // E by its rule: the top and the bottom network, one place of each pair in the top, and three entries for each pair and
 // three more.
+// W and E keep a recursion each: the proof has one, over a rule, but a rule that is handed in would have to promise how large its
+// sums get, and the two would be no plainer.
 pub fn entries_by_halves(n: u32) -> u64
     ensures { result ≡ E n }
 {
