@@ -14,10 +14,8 @@ fn main(rt: HostRuntime) {
         return;
     }
     let mut input = cmd_list::input_buffer();
-    let got = cmd_io::read_input(&rt, Program::List, &mut input);
-    if got.failed {
+    let Some(n) = cmd_io::read_input(&rt, Program::List, &mut input) else {
         return;
-    }
-    let n = got.count;
+    };
     list(&rt, &input[..n]);
 }
