@@ -1,6 +1,7 @@
 // The setter's steps on hidden tables in their sequence, by recursion on the halves. Hidden: the tables, f, c, g, s, any and the
 // bits. No branch and no index below depends on one of these. `rings` is lent for a network's rounds alone: what it holds before
-// and after does not matter. Public for the crate `setter`, whose callers have asked the questions of `set`: so
+// and after does not matter. `vals` and `trails` are no struct: one of lent slices would need a clause for each in every contract, one of
+// arrays would have places past those of the whole. Public for the crate `setter`, whose callers have asked the questions of `set`: so
 // `set_network` may `require` sizes, and that its places hold an order.
 #![tactic(auto)]
 

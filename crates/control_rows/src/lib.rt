@@ -53,7 +53,7 @@ pub fn look_in(row: &[u16; 1024], m: usize, p: u16) -> u16
         return 0;
     }
     let mut g = 0u16;
-    let mut c = 0u16;
+    let mut c = 0u16; // no index as u16: a sweep would then take fewer places at a time
     for x in &row[..r] {
         g |= x & select::mask(u16::from(c == q));
         c += 1;

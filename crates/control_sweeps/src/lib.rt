@@ -1,6 +1,6 @@
 // Small oblivious functions on tables. The numbers in the tables are hidden: no branch and no index depends on one. Each function
-// sweeps all the places that it is given and selects by arithmetic. Every function is public for the crates of the calls, which have
-// asked their questions before: so it may `require` sizes.
+// sweeps all the places that it is given, by index, since they lie at a distance, and selects by arithmetic. Every function is
+// public for the crates of the calls, which have asked their questions before: so it may `require` sizes.
 #![tactic(auto)]
 
 ghost use Rattle.std.specs.Prelude.{◌≡◌, false, ◌+◌, ◌*◌, ◌%◌, ◌≤◌, length, get_or};

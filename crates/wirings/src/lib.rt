@@ -13,7 +13,8 @@ pub enum Topology {
     Neighbour,
 }
 
-// A network of `size` places that lie `apart` from each other, from the place `start` of the whole on.
+// A network of `size` places that lie `apart` from each other, from the place `start` of the whole on. Where it must lie is in clauses and
+// no ghost field: definitions make a network of any numbers.
 #[derive(Clone, Copy)]
 pub struct Net {
     pub topology: Topology,

@@ -3,11 +3,7 @@
 use native.Mathlib.Omega.{arith}
 use borrow.Author.Rules.{rules}
 use Rattle.control_sweeps.proofs.Bounds.{each_below}
-use Rattle.control_sweeps.proofs.Places.{small}
 use Rattle.control_layers.proofs.output_switches.Goals as goal
-
-pub overflow_add-h : goal.overflow_add-h
-overflow_add-h c = omega (arith, small c.requires.1 c.requires.0)
 
 pub act_on-requires : goal.act_on-requires
 act_on-requires c = (

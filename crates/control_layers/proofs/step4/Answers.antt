@@ -10,9 +10,6 @@ use Rattle.control_walk.proofs.Going.{went_one}
 use Rattle.control_layers.proofs.Stepping.{step4_is}
 use Rattle.control_layers.proofs.step4.Goals as goal
 
-pub overflow_add-k : goal.overflow_add-k
-overflow_add-k c = omega (arith, small c.requires.1 c.requires.0)
-
 pub write_entry-requires : goal.write_entry-requires
 write_entry-requires c = let z = small c.requires.1 c.requires.0 in
     (c.requires.4, omega (arith, z), omega (arith, z), c.requires.6)

@@ -9,9 +9,6 @@ use Rattle.control_walk.proofs.Going.{went_one}
 use Rattle.control_layers.proofs.Stepping.{outputs_within, step6_is}
 use Rattle.control_layers.proofs.step6.Goals as goal
 
-pub overflow_add-k : goal.overflow_add-k
-overflow_add-k c = omega (arith, small c.requires.1 c.requires.0)
-
 pub overflow_cast-k : goal.overflow_cast-k
 overflow_cast-k c = omega (arith, small c.requires.1 c.requires.0)
 

@@ -14,9 +14,6 @@ use Rattle.control_network.proofs.Entries.{went_then, went_as, W_parts}
 use Rattle.control_network.proofs.Trails.{values_within, trails_within}
 use Rattle.control_network.proofs.enter.Goals as goal
 
-pub input_steps-x-requires : goal.input_steps-x-requires
-input_steps-x-requires c = (c.requires.0, c.requires.1, c.requires.2, c.requires.3)
-
 pub step5-requires : goal.step5-requires
 step5-requires c = let a = c.args in
     let x = c.input_steps-x in

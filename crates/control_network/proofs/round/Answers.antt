@@ -9,56 +9,12 @@ use Rattle.counts.specs.Counts.{up}
 use Rattle.network.specs.Log.{entry}
 use Rattle.steps.specs.Steps.{digit, step2, step3}
 use Rattle.steps.specs.Fold.{rounds_of}
-use Rattle.select.proofs.Numbers.{digit_small}
-use Rattle.control_pairs.specs.Pairs.{marks_in, bits_in, none_in}
+use Rattle.control_pairs.specs.Pairs.{marks_in, bits_in}
 use Rattle.control_pairs.proofs.Held.{none_held}
 use Rattle.wirings.specs.Nets.{wiring_of}
 use Rattle.control_walk.specs.Walks.{lying}
 use Rattle.control_network.proofs.Entries.{went_then, went_as}
 use Rattle.control_network.proofs.round.Goals as goal
-
-pub step1-x-requires : goal.step1-x-requires
-step1-x-requires c = let H = c.requires.6 in (
-  c.requires.0,
-  c.requires.1,
-  c.requires.2,
-  omega arith,
-  c.requires.4,
-  H.f_below,
-  H.c_below,
-  rw H.any_is
-      (digit_small (not (none_in (up c.args.net.size) c.args.rings.now.pairs))),
-  c.requires.7,
-)
-
-pub step2-y-requires : goal.step2-y-requires
-step2-y-requires c = let x = c.step1-x in (
-  c.requires.0,
-  c.requires.1,
-  c.requires.2,
-  omega (arith, c.requires.3, x.ensures.0.count),
-  c.requires.5,
-  x.ensures.2.2,
-  omega (arith, c.requires.7, x.ensures.0.bit),
-)
-
-pub step3-requires : goal.step3-requires
-step3-requires c = let x = c.step1-x in
-    let y = c.step2-y in
-    let H = c.requires.6 in (
-      c.requires.0,
-      c.requires.1,
-      c.requires.2,
-      omega (arith, c.requires.3, x.ensures.0.count, y.ensures.0.count),
-      record {
-        numbered = H.numbered;
-        any_is = y.ensures.1 ∙ x.ensures.1 ∙ H.any_is;
-        f_below = omega (arith, y.ensures.2.0, x.ensures.2.0);
-        c_below = omega (arith, y.ensures.2.1, x.ensures.2.1);
-      },
-      y.ensures.2.2,
-      omega (arith, c.requires.7, x.ensures.0.bit, y.ensures.0.bit),
-    )
 
 pub returns : goal.returns
 unfolding rounds_of

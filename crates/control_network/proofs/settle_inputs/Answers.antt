@@ -50,9 +50,6 @@ rounds-x-requires c = let a = c.args in
       omega (arith, c.requires.7, ap (λ (r : Walk). r.b) w.ensures),
     )
 
-pub overflow_sub-k : goal.overflow_sub-k
-overflow_sub-k c = omega (arith, c.requires.0)
-
 pub give_bits-requires : goal.give_bits-requires
 unfolding Numbered
 give_bits-requires c = let r = c.rounds-x in

@@ -3,20 +3,13 @@
 use native.Mathlib.Omega.{arith}
 use mathlib.Core.Path.{◌≡◌, ap, ◌∙◌}
 use Prim.Native.Nat.{◌+◌}
-use lib.Dec.{eqb}
 use lib.ListN.{get_or}
 use Rattle.control_pairs.specs.Pairs.{bits_in}
-use Rattle.control_pairs.proofs.Settling.{bits_none, bits_step, given-bit, given_small}
+use Rattle.control_pairs.proofs.Settling.{bits_none, bits_step, given-bit}
 use Rattle.control_pairs.proofs.give_bits.Goals as goal
 
 pub loop-i-init : goal.loop-i-init
 loop-i-init c = let a = c.args in bits_none a.b a.pairs.now a.bits.now
-
-pub overflow_cast-bits : goal.overflow_cast-bits
-overflow_cast-bits c = let l = c.loop-i in
-    let w = c.from-old in
-    let x = c.requires.2 l.i (omega arith) in
-    omega (arith, c.pick.ensures, given_small (eqb c.below.result 1) _ w.result x (omega arith))
 
 pub loop-i-preserved : goal.loop-i-preserved
 loop-i-preserved c = let a = c.args in

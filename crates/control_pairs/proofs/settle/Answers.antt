@@ -4,12 +4,10 @@ use native.Mathlib.Omega.{arith}
 use mathlib.Core.Path.{◌≡◌, refl, ap, ◌∙◌}
 use mathlib.Core.List.{List}
 use Prim.Native.Nat.{ℕ, ◌+◌, ◌*◌, ◌%◌, ◌≤◌}
-use lib.Dec.{eqb}
 use lib.ListN.{length, take}
 use Rattle.std.proofs.lemmas.List.{length-take}
 use Rattle.answers.specs.Questions.{first_bad_from}
 use Rattle.steps.specs.Sweeps.{store}
-use Rattle.select.proofs.Numbers.{byte_small}
 use Rattle.control_rows.specs.Rows.{sixteens}
 use Rattle.control_pairs.specs.Pairs.{Numbered}
 use Rattle.control_pairs.proofs.Lowest.{low_of, good_in, low_step, least_within, low-marked, low_open, low_whole}
@@ -20,9 +18,6 @@ pub loop-pair-init : goal.loop-pair-init
 unfolding first_bad_from
 loop-pair-init c = let a = c.args in
     ((refl, omega arith), store_none (take c.sixteens-r.result a.pairs.now) a.p (a.p + 1024 + 2048 * a.bit), refl)
-
-pub pick-requires : goal.pick-requires
-pick-requires c = rw c.from.ensures (byte_small (eqb c.loop-pair.c c.args.p))
 
 pub least-low-requires : goal.least-low-requires
 unfolding Numbered

@@ -1,14 +1,9 @@
 -- Neighbours lie 1 apart.
 -- Assumes nothing.
 use mathlib.Core.Path.{subst, sym}
-use Prim.Native.Nat.{◌+◌, ◌*◌, ◌<◌}
-use lib.ListN.{length}
+use Prim.Native.Nat.{◌+◌, ◌*◌}
 use Rattle.control_rows.specs.Rows.{Gathered}
 use Rattle.control_rows.proofs.gather.Goals as goal
-
-pub fill-requires : goal.fill-requires
-fill-requires c = let a = c.args in
-    (c.requires.0, λ i l. subst (λ x. a.o + i * x < length a.xs.now) c.if-apart-eq1.true (c.requires.1 i l))
 
 pub returns-then-apart-eq1 : goal.returns-then-apart-eq1
 returns-then-apart-eq1 c = let a = c.args in

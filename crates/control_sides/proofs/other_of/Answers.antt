@@ -1,15 +1,8 @@
 -- The product with the carry is 2k or 0; or the place before or behind.
 -- Assumes nothing.
-use native.Mathlib.Omega.{arith}
 use Rattle.wirings.specs.Nets.{wiring_of}
 use Rattle.control_sides.proofs.Pairs.{pairs, neighbours}
 use Rattle.control_sides.proofs.other_of.Goals as goal
-
-pub overflow_mul-result-in-Paper : goal.overflow_mul-result-in-Paper
-overflow_mul-result-in-Paper c = let a = c.args in rw c.at_least.ensures (omega (arith, (pairs a.k a.p).twice_fits))
-
-pub overflow_sub-result : goal.overflow_sub-result
-overflow_sub-result c = let a = c.args in rw c.at_least.ensures (pairs a.k a.p).twice_within
 
 pub returns-in-Paper : goal.returns-in-Paper
 unfolding wiring_of

@@ -5,11 +5,6 @@ use Rattle.wirings.specs.Nets.{wiring_of}
 use Rattle.control_sides.proofs.Pairs.{regained, doubled}
 use Rattle.control_sides.proofs.value_of.Goals as goal
 
-pub overflow_add-result : goal.overflow_add-result
-overflow_add-result c = let a = c.args in
-    let q = regained a.k a.v a.s c.mask.result c.mask.ensures c.requires.2 (omega (arith, c.requires.0)) in
-    omega (arith, q.0, c.requires.0, c.requires.1)
-
 pub returns-in-Paper : goal.returns-in-Paper
 unfolding wiring_of
 returns-in-Paper c = let a = c.args in

@@ -1,12 +1,8 @@
 -- The network's pairs, counted by steps.
 -- Assumes nothing.
 use mathlib.Core.Path.{refl, sym}
-use Rattle.wirings.proofs.Halves.{inside_more}
 use Rattle.control_sweeps.proofs.Places.{reaches, acted}
 use Rattle.control_sweeps.proofs.act_on.Goals as goal
-
-pub spacing-spacing-requires : goal.spacing-spacing-requires
-spacing-spacing-requires c = (c.requires.0, inside_more c.requires.1.inside c.requires.1.short)
 
 pub act_by-requires : goal.act_by-requires
 act_by-requires c = let a = c.args in

@@ -1,12 +1,8 @@
 -- The network's pairs, counted by steps.
 -- Assumes nothing.
 use mathlib.Core.Path.{refl, sym}
-use Rattle.wirings.proofs.Halves.{inside_more}
 use Rattle.control_sweeps.proofs.Places.{reaches_first, taken}
 use Rattle.control_sweeps.proofs.last_bits.Goals as goal
-
-pub spacing-step-requires : goal.spacing-step-requires
-spacing-step-requires c = (c.requires.0, inside_more c.requires.1.inside c.requires.1.short)
 
 pub last_by-requires : goal.last_by-requires
 last_by-requires c = let a = c.args in

@@ -2,21 +2,9 @@
 -- Assumes nothing.
 use mathlib.Core.Path.{subst, sym}
 use Rattle.wirings.specs.declared.Net.{Net}
-use Rattle.wirings.specs.Nets.{place_of}
 use Rattle.wirings.proofs.Halves.{net_as}
-use Rattle.control_sweeps.specs.Tables.{Covers, Within, Parted}
+use Rattle.control_sweeps.specs.Tables.{Parted}
 use Rattle.control_sweeps.proofs.split_values.Goals as goal
-
-pub split_by-requires : goal.split_by-requires
-split_by-requires c = let a = c.args in
-    let e = net_as a.net 1 c.if-apart-eq1.true in (
-      c.requires.0,
-      subst (λ (n : Net). Covers n a.vals.now) e c.requires.1,
-      subst (λ (n : Net). Covers n a.trails.now) e c.requires.2,
-      subst (λ (n : Net). Within (place_of n) n.size 32768 a.vals.now) e c.requires.3,
-      subst
-          (λ (n : Net). Within (place_of n) n.size 32768 a.trails.now) e c.requires.4,
-    )
 
 pub returns-then-apart-eq1 : goal.returns-then-apart-eq1
 returns-then-apart-eq1 c = let a = c.args in

@@ -1,19 +1,11 @@
 -- The local arrays are 0, and their lent parts have the length of the order.
 -- Assumes nothing.
-use mathlib.Core.Path.{sym, ap, ◌∙◌}
+use mathlib.Core.Path.{ap, ◌∙◌}
 use Prim.Native.Nat.{ℕ}
 use lib.ListN.{length}
 use lib.ListN.{length-replicate}
 use Rattle.setter.proofs.Start.{took}
 use Rattle.setter.proofs.set_order_in.Goals as goal
-
-pub slice_bounds-set_table-end : goal.slice_bounds-set_table-end
-slice_bounds-set_table-end c = let n = length c.args.order.now in
-    sym (ap length (took 1024 n c.requires.0) ∙ length-replicate {A = ℕ} n 0)
-
-pub slice_bounds-set_table-end-2 : goal.slice_bounds-set_table-end-2
-slice_bounds-set_table-end-2 c = let n = length c.args.order.now in
-    sym (ap length (took 1024 n c.requires.0) ∙ length-replicate {A = ℕ} n 0)
 
 pub set_table-requires : goal.set_table-requires
 set_table-requires c = let n = length c.args.order.now in (

@@ -6,17 +6,12 @@ use Prim.Native.Nat.{◌-◌, ◌≤◌}
 use lib.ListN.{length}
 use Rattle.counts.specs.Counts.{up}
 use Rattle.wirings.specs.Nets.{wiring_of}
-use Rattle.select.proofs.Numbers.{digit_small}
 use Rattle.control_sides.proofs.Bounds.{pair_within}
 use Rattle.control_pairs.proofs.Held.{settled_numbered}
 use Rattle.control_walk.specs.declared.Walk.{Walk}
 use Rattle.control_walk.proofs.Going.{went_one}
 use Rattle.control_rings.proofs.Stepping.{low_within, turned_small, turned_round, any_after, step3_is}
 use Rattle.control_rings.proofs.Rings.step3.Goals as goal
-
-pub overflow_sub-bit : goal.overflow_sub-bit
-overflow_sub-bit c = let a = c.args in
-    rw c.side_of-bit.ensures (omega (arith, digit_small ((wiring_of a.net.topology).dec (up a.net.size) a.w.s).1))
 
 pub settle-low-requires : goal.settle-low-requires
 settle-low-requires c = let p = c.pair_of-pair in
