@@ -14,10 +14,8 @@ fn main(rt: HostRuntime) {
         return;
     }
     let mut input = cmd_chart::input_buffer();
-    let got = cmd_io::read_input(&rt, Program::Chart, &mut input);
-    if got.failed {
+    let Some(n) = cmd_io::read_input(&rt, Program::Chart, &mut input) else {
         return;
-    }
-    let n = got.count;
+    };
     chart(&rt, &input[..n]);
 }

@@ -6,7 +6,7 @@ use cmd_usage::Program;
 fn sheet(rt: &HostRuntime, input: &[u8]) {
     let mut made = [0u8; sheets::SHEET_ROOM];
     let answer = cmd_sheet::order_sheet(input, &mut made);
-    let n = answer.count;
+    let n = answer.unwrap_or(0);
     cmd_io::finish(rt, Program::Sheet, answer, &made[..n]);
 }
 
@@ -15,10 +15,8 @@ fn main(rt: HostRuntime) {
         return;
     }
     let mut input = cmd_read_order::input_buffer();
-    let got = cmd_io::read_input(&rt, Program::Sheet, &mut input);
-    if got.failed {
+    let Some(n) = cmd_io::read_input(&rt, Program::Sheet, &mut input) else {
         return;
-    }
-    let n = got.count;
+    };
     sheet(&rt, &input[..n]);
 }
