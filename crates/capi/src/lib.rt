@@ -190,7 +190,7 @@ pub extern "C" fn lomuveran_gauge_report(
 
 // ---- counts, for callers who must size their buffers: question 1, then the count
 
-// How many switches, so how many bits, n places have.
+// How many switches, so how many bits, n places have. This and the next are twins that C names.
 #[unsafe(no_mangle)]
 pub extern "C" fn lomuveran_switches(n: usize) -> Answer
     ensures { result ≡ counted W n }

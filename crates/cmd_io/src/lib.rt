@@ -84,7 +84,7 @@ fn fail(rt: &HostRuntime, program: Program, what: &[u8], error: &Error)
 
 // ---- what is read
 
-// As much as buf holds, or until the input ends.
+// As much as buf holds, or until the input ends. By `while`: how far a turn goes, the reader says.
 fn read_full<R: Read>(reader: &mut R, buf: &mut [u8]) -> Result<usize, Error>
     ensures { IfOk result (λ n. n ≤ length buf.new) }
 {

@@ -45,7 +45,8 @@ fn switched(x: u64, y: u64, s: u8) -> Two
     }
 }
 
-// Exchanges the N bytes from a on with those that lie `gap` further on where the bit s is 1.
+// Exchanges the N bytes from a on with those that lie `gap` further on where the bit s is 1. That s is below 2 each exchange asks for
+// itself: a type for it would be made of a lent byte in two loops, each asked the same, and taken apart again here.
 pub fn exchange<const N: usize>(blocks: &mut [u8], a: usize, gap: usize, s: u8)
     requires { (N ≤ 8) × (s < 2) × (N ≤ gap) × (a + gap + N ≤ length blocks.old) }
     ensures { blocks.new ≡ bytes_switched a gap s N blocks.old }

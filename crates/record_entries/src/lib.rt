@@ -15,7 +15,7 @@ pub struct Counted {
     pub fixed: usize,
 }
 
-// 0 .. n - 1.
+// 0 .. n - 1. (The shuffle fills a lent slice so, in one loop of its own: sharing that loop would say no less.)
 pub fn identity(n: usize) -> [u16; 1024]
     requires { n ≤ 1024 }
     ensures { result ≡ padded (identity n) }
