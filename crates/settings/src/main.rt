@@ -14,10 +14,8 @@ fn main(rt: HostRuntime) {
         return;
     }
     let mut input = cmd_read_order::input_buffer();
-    let got = cmd_io::read_input(&rt, Program::Settings, &mut input);
-    if got.failed {
+    let Some(n) = cmd_io::read_input(&rt, Program::Settings, &mut input) else {
         return;
-    }
-    let n = got.count;
+    };
     settings(&rt, &input[..n]);
 }
