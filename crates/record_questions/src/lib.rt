@@ -1,5 +1,5 @@
 // Questions 1 and 6 of what a permutation record holds (01: open order; 02, F-2: 6 of its number of entries that stay home).
-// What is required here, the record's own shape and question 1 ensure (crate records).
+// What is required here, the record's own type and question 1 ensure (crate records).
 #![tactic(auto)]
 
 ghost use Rattle.std.specs.Prelude.{◌≡◌, ◌≤◌, ◌<◌, eqb, length};
@@ -20,8 +20,8 @@ pub fn home(x: u16, i: usize) -> u16
 }
 
 // Question 6 of a record's entries: its list, and past that nothing but 0. 1,024 where nothing is bad.
-fn first_bad(n: usize, e: &[u16]) -> usize
-    requires { (n ≤ 1024) × (length e.now ≡ 1024) }
+fn first_bad(n: usize, e: &[u16; 1024]) -> usize
+    requires { n ≤ 1024 }
     ensures { result ≡ first_bad (good_in_record n e.now) 1024 }
 {
     let mut low = permutation::first_bad_entry(&e[..n]);
@@ -44,8 +44,7 @@ pub fn fixed_points(list: &[u16]) -> usize
 }
 
 // Questions 1 and 6 of a record handed in.
-pub fn examine(n: usize, e: &[u16], fixed: usize) -> Result<(), Refusal>
-    requires { length e.now ≡ 1024 }
+pub fn examine(n: usize, e: &[u16; 1024], fixed: usize) -> Result<(), Refusal>
     ensures { answer_with (λ _. 0) result ≡ answer_of (first_no (record_asks n e.now fixed)) 0 }
 {
     if counts::MOST_PLACES < n {
