@@ -12,7 +12,7 @@ ghost use Rattle.apply.specs.Calls.{apply_call, inverse_call, apply_call_in, inv
 use answers::Refusal;
 use wirings::Topology;
 
-// 01: mix.
+// 01: mix. Mix and return, each in the paper's wiring and in any, are calls of their own: 01, 02 and the calls for C name them.
 pub fn apply(
     n: usize,
     width: usize,

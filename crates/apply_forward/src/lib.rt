@@ -12,7 +12,8 @@ use apply_layers::Forward;
 // The network of m places that lie `apart` from each other, whatever its wiring, on the blocks from its first place o on, its entries
 // from number e on: input switches, top, bottom, output switches. The blocks of a half may lie between those of the other, so the two
 // parts that are lent may overlap. Returns the number of the entry after its last. Public for the crate `apply` only, whose calls have
-// asked their questions before: so it `requires` what they have settled.
+// asked their questions before: so it `requires` what they have settled. Its numbers stay apart: as a `wirings::Net` they would go in
+// memory.
 pub fn run(
     blocks: &mut [u8],
     width: usize,

@@ -10,7 +10,7 @@ ghost use Rattle.apply_layers.specs.Ran.{blocks_in, Lent, Pairs, Ran, back_from,
 use entry_log::Kind;
 
 // Which way a layer's switches are run: by a type, so that the loop is compiled anew for each. The loops differ in where they begin and
-// which way they count; as one loop over numbers the return took a tenth more instructions in small networks.
+// which way they count; as one loop over the direction the return took 6 to 8 % more instructions in small networks.
 pub trait Direction {
     // what is run of a layer: of the bits, its step and gap, the number of its first entry, and how many switches it has
     ghost entries: { List ℕ → ℕ → ℕ → ℕ → ℕ → List Entry };

@@ -8,7 +8,7 @@ use apply_layers::Direction;
 
 // The layer. Pairs side by side are told apart from pairs at a distance only so that the loop is compiled anew for them. Public for the
 // crates `apply_forward` and `apply_backward` only, whose callers have asked their questions before: so it `requires` what they have
-// settled.
+// settled. Its numbers stay apart, as in `Direction::in_parts`.
 pub fn layer<D: Direction>(
     blocks: &mut [u8],
     width: usize,

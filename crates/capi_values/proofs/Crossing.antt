@@ -1,23 +1,13 @@
 -- What crosses is what the call gave.
 -- Assumes nothing.
-use mathlib.Core.Path.{◌≡◌, ap, ◌∙◌}
+use mathlib.Core.Path.{◌≡◌}
 use mathlib.Core.Logic.{◌≢◌}
 use mathlib.Core.List.{List}
-use Prim.Native.Nat.{ℕ, ◌≤◌, ◌<◌}
+use Prim.Native.Nat.{ℕ}
 use lib.ListN.{length}
-use borrow.Author.Tests.{le-leb, lt-leb, eq-eqb, ne_eqb}
-use Rattle.answers.specs.Answers.{refusal, accepted}
+use borrow.Author.Tests.{eq-eqb, ne_eqb}
 use Rattle.records.specs.declared.Reply.{Reply}
-use Rattle.capi_values.specs.Crossing.{counted, Told, told, Lent, lending, spread, lent}
-
--- ---- answers
-
-module _ (count : ℕ → ℕ) (n : ℕ) where
-  pub count_refused : 1024 < n → refusal 1 0 ≡ counted count n
-  count_refused l = rw (lt-leb _ _ l)
-
-  pub count-given : {r : ℕ} → n ≤ 1024 → r ≡ count n → accepted r ≡ counted count n
-  count-given h e = rw (le-leb _ _ h, e)
+use Rattle.capi_values.specs.Crossing.{Told, told, lending, spread, lent}
 
 -- ---- a reply and the lent entries
 
@@ -30,6 +20,3 @@ module _ (r : Reply) (entries : List ℕ) {t : Told} (same : t ≡ told r) where
       → lending t after ≡ lent r entries
   unfolding lent
   lent-accepted n e = rw (same, eq-eqb r.answer.number 0 n, e)
-
-pub reply-crosses : (entries : List ℕ) {given reply : Reply} {l : Lent} → l ≡ lent given entries → given ≡ reply → l ≡ lent reply entries
-reply-crosses entries came same = came ∙ ap (λ (r : Reply). lent r entries) same

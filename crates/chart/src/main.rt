@@ -9,6 +9,7 @@ fn chart(rt: &HostRuntime, input: &[u8]) {
     cmd_io::write_output(rt, Program::Chart, &text[..end]);
 }
 
+// Much as in list and settings: shared, it would need a promise of what it is handed, that the text's length lies within its buffer.
 fn main(rt: HostRuntime) {
     if cmd_io::misused(&rt, Program::Chart, 0) {
         return;

@@ -18,8 +18,8 @@ pub fn blocks_buffer() -> [u8; BLOCKS_ROOM]
     [0; BLOCKS_ROOM]
 }
 
-// The two directions share `read_setting`; what is left of each is one call. A function that took the call as a closure would
-// be no shorter, and its contract would have to hand on the contract of the call.
+// The two directions share `read_setting`; what is left of each is one call. A function that took the call would have to promise
+// whatever that call promises.
 
 /// Forward (01: mix). The sheet is asked first, and then the blocks; nothing is written before.
 pub fn mix(sheet: &[u8], width: usize, blocks: &mut [u8]) -> Result<usize, Refusal>

@@ -22,14 +22,6 @@ use Rattle.select.proofs.Numbers.{digit_is, byte_is}
 use Rattle.control_rows.specs.Rows.{sixteens}
 use Rattle.control_pairs.specs.Pairs.{mark_in, bit_in, bits_in, Numbered, Settled}
 
-pub unmarked_more : (pairs : List ℕ) (c i : ℕ) → c ≡ i → i < length pairs → ((j : ℕ) → j < i → get_or pairs j 0 ≡ j)
-    → (j : ℕ) → j < i + 1 → get_or (set pairs i c) j 0 ≡ j
-unmarked_more pairs c i e l h j m = go (ℕ_discrete j i)
-  where
-    go : Dec (j ≡ i) → get_or (set pairs i c) j 0 ≡ j
-    go (yes q) = rw q (get_or-set_same pairs i c 0 l ∙ e)
-    go (no q) = get_or-set_other pairs i j c 0 q ∙ h j (omega arith)
-
 -- ---- a number stored at a hidden place
 
 pub store_none : (xs : List ℕ) (p a : ℕ) → xs ≡ store (λ j. j) 0 p a xs

@@ -39,7 +39,7 @@ pub fn settle(pairs: &mut [u16; 512], k: usize, p: u16, bit: u16) -> u16
     low
 }
 
-// The n bits from b on become those of the marked pairs; an unmarked pair's bit is left.
+// The n bits from b on become those of the marked pairs; an unmarked pair's bit is left. By index: pairs and bits at once.
 pub fn give_bits(bits: &mut [u8], b: usize, n: usize, pairs: &[u16; 512])
     requires { (n ≤ 512) × (b + n ≤ length bits.old) × ((i : ℕ) → i < n → get_or pairs.now i 0 < 4096) }
     ensures { bits.new ≡ bits_in b n pairs.now bits.old }

@@ -20,7 +20,8 @@ use control_walk::Walk;
 use entry_log::Kind;
 use wirings::{Net, Topology};
 
-// What the rounds of a network are done on: its values side by side, and its pairs.
+// What the rounds of a network are done on: its values side by side, and its pairs. Arrays for the most places (no heap): a network's own
+// are the first m and the first k.
 #[derive(Drop)]
 pub struct Rings {
     pub row: [u16; 1024],

@@ -108,12 +108,6 @@ seek-step row a i best y B e = go (eqb (get_or row i 0) a) refl
         let f : y ≡ 0 = e ∙ rw t in
         rw (f, greater best) (record { small = omega (arith, B.small); is = more false t ∙ B.is })
 
-pub found_within : (best : ℕ) → digit (not (ltb best 1)) ≤ best
-found_within best = elim (dec_lt best 1) [
-  | yes l ↦ rw (lt-ltb best 1 l) (omega arith)
-  | no l ↦ rw (le-ltb best 1 (omega arith)) (omega arith)
-]
-
 pub seek_all : (row : List ℕ) (m a n best : ℕ) → a < 65535 → n ≡ sixteens m → Padded m row → Best row a n best
     → cond (eqb (digit (not (ltb best 1))) 1) (best - digit (not (ltb best 1))) a ≡ seek (λ j. j) m row a
 seek_all row m a n best h e P B = go (ℕ_discrete best 0) ∙ rw e (seek-padded m row a h P)

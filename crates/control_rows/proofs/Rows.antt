@@ -1,17 +1,16 @@
--- What a row says of the table it was gathered from, and how `gather` makes one, place by place.
+-- What a row says of the table it was gathered from, and what `gather` makes.
 -- Assumes nothing.
 use mathlib.Core.Path.{◌≡◌, refl, ◌∙◌}
 use mathlib.Core.Bool.{cond}
 use mathlib.Core.List.{List}
 use Prim.Native.Nat.{ℕ, zero, suc, ◌+◌, ◌-◌, ◌≤◌, ◌<◌}
 use native.Mathlib.Omega.{arith}
-use native.Mathlib.Decide.{ℕ_discrete, dec_lt}
+use native.Mathlib.Decide.{dec_lt}
 use lib.Dec.{ltb}
-use lib.ListN.{length, get_or, set, take, replicate}
+use lib.ListN.{length, get_or, take, replicate}
 use borrow.Rule.Slice.PartMut.{put_mid}
 use Rattle.std.proofs.Math.ListN.{get_or-append}
 use Rattle.std.proofs.lemmas.List.{get_or-append_right, get_or-replicate, get_or-take, length-take, length-replicate}
-use lib.Seq.{get_or-set_same, get_or-set_other}
 use borrow.Author.Tests.{lt-ltb, le-ltb, ne_eqb}
 use Rattle.steps.specs.Sweeps.{look, seek}
 use Rattle.control_rows.specs.Rows.{sixteens, Gathered, Padded}
@@ -52,21 +51,7 @@ seek-padded m row a h P =
     let e : sixteens m ≡ n + m = omega arith in
     rw e (seek-past m n row a (λ i l u q. omega (arith, P i l (omega arith))))
 
--- ---- gathering: one value more, then one number of the padding more
-
-pub gather_none : (place : ℕ → ℕ) (xs row : List ℕ) → Gathered place 0 xs row
-gather_none place xs row = record { at = λ i h. absurd (omega arith) }
-
-pub gather_more : (place : ℕ → ℕ) (i : ℕ) (xs row : List ℕ) → i < length row → Gathered place i xs row
-    → Gathered place (i + 1) xs (set row i (get_or xs (place i) 0))
-gather_more place i xs row l G = record { at = λ j h. go j h (ℕ_discrete j i) }
-  where
-    v : ℕ
-    v = get_or xs (place i) 0
-
-    go : (j : ℕ) → j < i + 1 → Dec (j ≡ i) → get_or (set row i v) j 0 ≡ get_or xs (place j) 0
-    go j h (yes e) = rw e (get_or-set_same row i v 0 l)
-    go j h (no e) = get_or-set_other row i j v 0 e ∙ G.at j (omega arith)
+-- ---- gathering: the values, then the padding
 
 -- the m values stand, and after them the padding was written up to a whole sixteen
 pub padded : (place : ℕ → ℕ) (m n : ℕ) (xs row ys : List ℕ) → n ≡ sixteens m → n ≤ length row → Gathered place m xs row

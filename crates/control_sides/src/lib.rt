@@ -1,6 +1,6 @@
 // The sides of a network's pairs, as oblivious functions on numbers: here alone the wirings differ in what a step makes of a place or
 // a value. The wiring and the number k of pairs are public; all other numbers are hidden: no branch depends on one. Public for the
-// crates of the steps; the call `set` has asked its questions before: so a function may `require` sizes.
+// crates of the steps; the call `set` has asked its questions before: so a function may `require` sizes (as clauses: crate select).
 #![tactic(auto)]
 
 ghost use Rattle.std.specs.Prelude.{◌≡◌, false, ◌≤◌, ◌<◌, eqb};

@@ -9,7 +9,8 @@ ghost use Rattle.steps.specs.Sweeps.{each, act};
 ghost use Rattle.wirings.specs.Nets.{net_of, place_of, side_of, stepped};
 ghost use Rattle.control_sweeps.specs.Tables.{Below, Within, Covers, Reaches, Parted, Joined};
 
-// n switches on the pairs that lie `step` from each other, from o on, under the bits from b on: they act on both tables.
+// n switches on the pairs that lie `step` from each other, from o on, under the bits from b on: they act on both tables. Step and gap are
+// numbers of their own, so that step can be the constant 1.
 #[tactic(auto, using(crate::proofs::Places::pair_here))]
 fn act_by(
     vals: &mut [u16],
@@ -151,7 +152,7 @@ fn join_by(
     }
 }
 
-// Step 6's sweep of the network's places.
+// Step 6's sweep of the network's places: a function like step 5's, since one that took the sweep would have to promise what that does.
 pub fn join_values(vals: &mut [u16], trails: &mut [u16], net: wirings::Net, k: u16)
     requires { (k ≤ 1024) × Covers net vals.old × Covers net trails.old × Within (place_of net) net.size 32768 vals.old }
     ensures { Joined net k vals.old trails.old vals.new trails.new }

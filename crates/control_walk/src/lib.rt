@@ -5,7 +5,8 @@
 ghost use Rattle.std.specs.Prelude.{◌≡◌, ◌+◌, ◌<◌};
 
 // The hidden numbers of the walk along the rings, with 1 in `any` where a pair of the network is marked; how many entries are
-// written, and the position of the next bit. By default nothing is done: the walk as it begins.
+// written, and the position of the next bit. By default nothing is done: the walk as it begins. Its bounds are clauses and no ghost field:
+// definitions make a walk of any numbers.
 #[derive(Clone, Copy, Default)]
 pub struct Walk {
     pub f: u16,

@@ -36,7 +36,8 @@ pub fn write_entry(log: &mut [u16], e: usize, kind: Kind, first: usize, second: 
     write_packed(log, e, packed(kind, first, second, bit));
 }
 
-// An entry as one number. Entries that are evenly apart are packed once and counted on, so that each is one store.
+// An entry as one number; that places and positions are below 65,536 stays a clause, since they are `usize` where they come from. Entries
+// that are evenly apart are packed once and counted on, so that each is one store.
 pub fn packed(kind: Kind, first: usize, second: usize, bit: usize) -> usize
     requires { (first < 65536) × (second < 65536) × (bit < 65536) }
     ensures { result ≡ packed (number_of kind) first second bit }
@@ -64,7 +65,7 @@ pub fn write_packed(log: &mut [u16], e: usize, x: usize)
     log[at + 3] = (x / 281474976710656) as u16;
 }
 
-// The two numbers of the log's entry number e.
+// The two numbers of the log's entry number e: two functions and not one of a word's number, since the definitions name them so.
 pub fn first_of(log: &[u16], e: usize) -> usize
     requires { entry_words * (e + 1) ≤ length log.now }
     ensures { result ≡ (entry_at log.now e).first }

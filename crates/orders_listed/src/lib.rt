@@ -19,7 +19,7 @@ pub fn count_orders(n: usize) -> u16
     read_table(&ORDERS, n)
 }
 
-// The number at place n of the table.
+// The number at place n of the table. (`counts` has one for its own: one over the length would have to speak of every length.)
 fn read_table(table: &[u16; 7], n: usize) -> u16
     requires { n ≤ 6 }
     ensures { StandsAt table.now n result }

@@ -8,14 +8,14 @@ ghost use Rattle.permutation.specs.Permutations.{IsPermutation, bit, identity, e
 ghost use Rattle.record_entries.specs.Entries.{padded};
 ghost use Rattle.record_entries.specs.Fillings.{counted_of};
 
-// Entries that a loop filled, with how many of them stay home.
+// Entries, with how many of them stay home.
 #[derive(Clone, Copy)]
 pub struct Counted {
     pub entries: [u16; 1024],
     pub fixed: usize,
 }
 
-// 0 .. n - 1. (The shuffle fills a lent slice so, in one loop of its own: sharing that loop would say no less.)
+// 0 .. n - 1. (The shuffle fills a lent slice so, in one loop of its own: sharing that loop would be no shorter.)
 pub fn identity(n: usize) -> [u16; 1024]
     requires { n ≤ 1024 }
     ensures { result ≡ padded (identity n) }

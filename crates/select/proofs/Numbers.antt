@@ -20,9 +20,6 @@ pub digit_byte : (b : Bool) → bool_byte b ≡ digit b
 digit_byte true = refl
 digit_byte false = refl
 
-pub byte_small : (b : Bool) → bool_byte b < 2
-byte_small b = rw (digit_byte b) (digit_small b)
-
 -- a bit says what it was made of
 pub digit_is : (b : Bool) → eqb (digit b) 1 ≡ b
 digit_is true = refl

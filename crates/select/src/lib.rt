@@ -1,6 +1,6 @@
 // Small oblivious functions on numbers. All numbers below are hidden: no branch depends on one. They are 16 bits wide, so that a
 // sweep takes several places at a time. Every function is public for the crates of the calls, which have asked their questions
-// before: so it may `require` sizes.
+// before: so it may `require` sizes. These stay clauses: the sweeps load plain numbers, and a type would be wrapped around each.
 #![tactic(auto)]
 
 ghost use Rattle.std.specs.Prelude.{◌≡◌, not, cond, ◌*◌, ◌<◌, eqb, ltb};

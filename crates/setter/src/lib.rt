@@ -14,7 +14,8 @@ use control_rings::Rings;
 use control_walk::Walk;
 use wirings::{Net, Topology};
 
-// The setter on a table of the order's length.
+// The setter on a table of the order's length. Order, bits and log are lent apart: a struct of lent slices would need a clause for each
+// wherever it goes.
 fn set_table(
     t: Topology,
     order: &[u16],

@@ -9,6 +9,7 @@ fn settings(rt: &HostRuntime, input: &[u8]) {
     cmd_io::write_output(rt, Program::Settings, &text[..end]);
 }
 
+// Much as in chart and list: shared, it would need a promise of what it is handed, that the text's length lies within its buffer.
 fn main(rt: HostRuntime) {
     if cmd_io::misused(&rt, Program::Settings, 0) {
         return;
