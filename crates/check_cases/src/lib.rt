@@ -1,7 +1,9 @@
-// What the check programs set, mix, return and convert: sizes, words for the draw of an order, settings and blocks.
+// What the check programs set, mix, return and convert: sizes, words for the draw of an order, settings and blocks; and what their
+// second ways do to tables and lists.
 #![tactic(auto)]
 
-ghost use Rattle.std.specs.Prelude.{◌≡◌, ◌+◌, ◌<◌, ◌≤◌, IfOk, vec_len, length, slice_index_or};
+ghost use Rattle.std.specs.Prelude.{◌≡◌, ◌+◌, ◌/◌, ◌<◌, ◌≤◌, IfOk, vec_len, length, slice_index_or};
+ghost use Rattle.std.specs.List.{swap};
 ghost use lib.ListN.{set};
 
 use std::alloc::{AllocError, Global};
@@ -74,6 +76,29 @@ pub fn drawn(alloc: Global, c: u32, n: u16) -> Result<Vec<u32>, AllocError>
     Ok(words)
 }
 
+// ---- bytes, and a number
+
+// So many pseudo-random bytes below `limit`.
+pub fn bytes(alloc: Global, seed: u32, limit: u32, count: usize) -> Result<Vec<u8>, AllocError>
+    requires { (0 < limit) × (limit ≤ 256) }
+    ensures { IfOk result (λ bytes. vec_len bytes ≡ count) }
+{
+    let mut bytes = vec![in alloc; 0; count]?;
+    let mut x = tally::random(seed);
+    for byte in bytes.iter_mut() {
+        *byte = (x / 7 % limit) as u8;
+        x = tally::random(x);
+    }
+    Ok(bytes)
+}
+
+// The number of an entry, up to `count`, that x names.
+pub fn entry_number(x: u32, count: usize) -> usize
+    ensures { result ≤ count }
+{
+    x as usize % count.saturating_add(1)
+}
+
 // ---- settings
 
 // A setting of w bits: the binary digits of c, and behind sixteen of them a pseudo-random sequence.
@@ -94,6 +119,9 @@ pub fn setting(alloc: Global, c: u32, w: usize) -> Result<Vec<u8>, AllocError>
 }
 
 // ---- blocks
+
+// So much lies behind what a call is lent, and is compared too.
+pub const BEHIND: usize = 64;
 
 // The first bytes of a pseudo-random sequence.
 pub fn blocks(alloc: Global, bytes: usize) -> Result<Vec<u8>, AllocError>
@@ -139,6 +167,13 @@ pub fn scattered(
 
 // ---- tables of a network's values
 
+// m/2 rounded up.
+pub fn up(m: u16) -> u16
+    ensures { result + m / 2 ≡ m }
+{
+    m - m / 2
+}
+
 // The value at a place. The place behind the last is imagined and holds its own number.
 pub fn value(table: &[usize], place: usize) -> usize
     ensures { result ≡ slice_index_or table.now place (length table.now) }
@@ -152,5 +187,26 @@ pub fn put<T: Copy>(table: &mut [T], place: usize, x: T)
 {
     if place < table.len() {
         table[place] = x;
+    }
+}
+
+// At each value the place that holds it.
+pub fn find_homes(alloc: Global, table: &[usize]) -> Result<Vec<usize>, AllocError>
+    ensures { IfOk result (λ homes. vec_len homes ≡ length table.now) }
+{
+    let mut homes = vec![in alloc; 0; table.len()]?;
+    for (place, value) in table.iter().enumerate() {
+        put(&mut homes, *value, place);
+    }
+    Ok(homes)
+}
+
+// Two entries that there are change places.
+pub fn exchange<T>(list: &mut [T], i: usize, j: usize)
+    ensures within { i < length list.old → j < length list.old → list.new ≡ swap list.old i j }
+    ensures nowhere { length list.old ≤ i → list.new ≡ list.old }
+{
+    if i < list.len() && j < list.len() {
+        list.swap(i, j);
     }
 }
