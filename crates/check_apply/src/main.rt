@@ -4,14 +4,14 @@
 
 mod plain;
 
+ghost use Rattle.std.specs.Prelude.{◌≤◌, length};
+
 use answers::Refusal;
+use check_cases::BEHIND;
 use plain::Switch;
 use std::alloc::{AllocError, Global};
 use std::io;
 use tally::Tally;
-
-// So much lies behind what a call is lent, and is compared too.
-const BEHIND: usize = 64;
 
 // ---- accepted calls: the answer, the blocks, and the log with the words behind it
 
@@ -20,14 +20,48 @@ const SIZES: [(u16, u16); 5] = [(0, 33), (127, 128), (255, 259), (1000, 1000), (
 
 const WIDTHS: [u16; 4] = [1, 6, 255, 256];
 
-// A number from 0 to w.
-fn drawn_entry(seed: u32, width: u16, w: usize) -> usize {
+// The number of an entry, drawn by a seed and a width.
+fn drawn_entry(seed: u32, width: u16, w: usize) -> usize
+    ensures { result ≤ w }
+{
     let x = tally::random(tally::random(seed % 65536 + u32::from(width % 512)));
-    x as usize % w.saturating_add(1)
+    check_cases::entry_number(x, w)
 }
 
-// The switches are given in the sequence in which the call runs them. The plain mixer runs them in two parts, and the second part is
-// run by the call's log too.
+// What a call is to leave, the words behind its log too; and the blocks as they are where the run of its log begins.
+#[derive(Drop)]
+struct Right {
+    before: Vec<u8>,
+    blocks: Vec<u8>,
+    log: Vec<u16>,
+}
+
+// The plain mixer runs the switches up to number e, and from there on.
+fn run_plainly(
+    switches: &[Switch],
+    n: u16,
+    width: u16,
+    bits: &[u8],
+    blocks: &Vec<u8>,
+    e: usize,
+) -> Result<Right, AllocError>
+    requires { e ≤ length switches.now }
+{
+    let (first, others) = switches.split_at(e);
+    let mut before = blocks.clone()?;
+    let mut log = Vec::new(*blocks.allocator());
+    plain::run(first, &mut before, width, bits, &mut log)?;
+    let mut blocks = before.clone()?;
+    plain::run(others, &mut blocks, width, bits, &mut log)?;
+    log.extend_from_slice(&[77; BEHIND + 5][..BEHIND + usize::from(n % 6)])?;
+    Ok(Right {
+        before,
+        blocks,
+        log,
+    })
+}
+
+// The switches are given in the sequence in which the call runs them.
 fn check_call<F>(
     alloc: Global,
     tally: &mut Tally,
@@ -35,61 +69,54 @@ fn check_call<F>(
     switches: &[Switch],
     n: u16,
     width: u16,
-    seed: u32,
 ) -> Result<(), AllocError>
 where
     F: Fn(usize, usize, &mut [u8], &[u8], &mut [u16]) -> Result<usize, Refusal>,
     requires { F.IsAlwaysCallable call.now }
 {
+    let seed = u32::from(n) * 3 + 1;
     let w = switches.len();
     let bytes = tally::times(usize::from(n), usize::from(width));
-    let bits = plain::drawn(alloc, seed, 2, w)?;
-    let mut blocks = plain::drawn(alloc, seed, 256, bytes + BEHIND)?;
-    let mut right = blocks.clone()?;
+    let bits = check_cases::bytes(alloc, seed, 2, w)?;
+    let mut blocks = check_cases::bytes(alloc, seed, 256, bytes + BEHIND)?;
+    let e = drawn_entry(seed, width, w);
+    let mut right = run_plainly(switches, n, width, &bits, &blocks, e)?;
 
-    let e = drawn_entry(seed, width, w).min(w);
-    let (first, others) = switches.split_at(e);
-    let mut right_log = Vec::new(alloc);
-    plain::run(first, &mut right, width, &bits, &mut right_log)?;
-    let mut replayed = right.clone()?;
-    plain::run(others, &mut right, width, &bits, &mut right_log)?;
-    right_log.extend_from_slice(&[77; BEHIND + 5][..BEHIND + usize::from(n % 6)])?;
-
-    let mut log = vec![in alloc; 77; right_log.len()]?;
+    let mut log = vec![in alloc; 77; right.log.len()]?;
     let room = log.len().saturating_sub(BEHIND);
+    let lent = &mut blocks[..bytes];
     let answer = call(
         usize::from(n),
         usize::from(width),
-        &mut blocks[..bytes],
+        lent,
         &bits,
         &mut log[..room],
     );
     let (entries, _) = log.as_chunks::<4>();
     if let Some(entries) = entries.get(e..w) {
-        plain::replay(entries, &mut replayed, width, &bits);
+        plain::replay(entries, &mut right.before, width, &bits);
     }
     tally.count(tally::answered(answer, 0, 0, w));
-    tally.compare(&blocks, &right);
-    tally.compare(&blocks, &replayed);
-    tally.compare(&log, &right_log);
+    tally.compare(&blocks, &right.blocks);
+    tally.compare(&blocks, &right.before);
+    tally.compare(&log, &right.log);
     Ok(())
 }
 
-fn check_sizes<F>(alloc: Global, call: F, last_first: bool) -> Result<Tally, AllocError>
+// `turn` brings the switches into the sequence in which the call runs them.
+fn check_sizes<F, T>(alloc: Global, call: F, turn: T) -> Result<Tally, AllocError>
 where
     F: Fn(usize, usize, &mut [u8], &[u8], &mut [u16]) -> Result<usize, Refusal>,
-    requires { F.IsAlwaysCallable call }
+    T: Fn(&mut [Switch]),
+    requires { F.IsAlwaysCallable call × T.IsAlwaysCallable turn }
 {
     let mut tally = Tally::new();
     for (from, to) in SIZES {
         for n in from..=to {
             let mut switches = plain::list(alloc, n)?;
-            if last_first {
-                switches.reverse();
-            }
+            turn(&mut switches);
             for width in WIDTHS {
-                let seed = u32::from(n) * 3 + 1;
-                check_call(alloc, &mut tally, &call, &switches, n, width, seed)?;
+                check_call(alloc, &mut tally, &call, &switches, n, width)?;
             }
         }
     }
@@ -146,9 +173,9 @@ where
 
 fn main(rt: HostRuntime) -> io::Result<()> {
     let alloc = rt.alloc();
-    let mixed = check_sizes(alloc, apply::apply, false)?;
+    let mixed = check_sizes(alloc, apply::apply, |_| ())?;
     println!(rt; "apply at 44 sizes and 4 widths: {mixed}")?;
-    let returned = check_sizes(alloc, apply::apply_inverse, true)?;
+    let returned = check_sizes(alloc, apply::apply_inverse, |switches| switches.reverse())?;
     println!(rt; "apply_inverse at 44 sizes and 4 widths: {returned}")?;
     let mut refused = Tally::new();
     check_refusals(alloc, &mut refused, apply::apply)?;

@@ -1,6 +1,4 @@
 // A second mixer, written plainly: a list of the switches, made with a stack of tasks, and exchanges of whole blocks.
-ghost use Rattle.std.specs.Prelude.{◌≡◌, ◌<◌, ◌≤◌, IfOk, vec_len};
-
 use std::alloc::{AllocError, Global};
 
 // ---- the list of switches
@@ -121,25 +119,4 @@ pub(crate) fn replay(entries: &[[u16; 4]], blocks: &mut [u8], width: u16, bits: 
             switch.act(blocks, width, bits);
         }
     }
-}
-
-// ---- pseudo-random bytes
-
-// So many bytes below `limit`.
-pub(crate) fn drawn(
-    alloc: Global,
-    seed: u32,
-    limit: u32,
-    count: usize,
-) -> Result<Vec<u8>, AllocError>
-    requires { (0 < limit) × (limit ≤ 256) }
-    ensures { IfOk result (λ bytes. vec_len bytes ≡ count) }
-{
-    let mut bytes = vec![in alloc; 0; count]?;
-    let mut x = tally::random(seed);
-    for byte in bytes.iter_mut() {
-        *byte = (x / 7 % limit) as u8;
-        x = tally::random(x);
-    }
-    Ok(bytes)
 }
