@@ -12,20 +12,11 @@ use tally::Tally;
 
 // ---- reports
 
-const NO_FIGURES: Figures = Figures {
-    count: 0,
-    least: 0,
-    greatest: 0,
-    sum: 0,
-    mean: 0,
-    remainder: 0,
-};
-
 // Every gauge of n blocks, and one that no block has.
 fn compare(tally: &mut Tally, blocks: &[u8], keys: &[u64]) {
     let n = keys.len();
     let absent = gauges::gauge_report(n, 6, blocks, 512);
-    tally.count(absent == Ok(NO_FIGURES));
+    tally.count(absent == Ok(Figures::default()));
     for run in keys.chunk_by(|a, b| plain::gauge_of(*a) == plain::gauge_of(*b)) {
         let report = gauges::gauge_report(n, 6, blocks, plain::gauge_of(run[0]));
         tally.count(report == Ok(plain::figures_of(run)));
@@ -93,7 +84,7 @@ fn check_all<F: Fn(&mut Tally, usize, &mut [u8], &[u8])>(
         let drawing = drawing(c % 144);
         let n = drawing.places;
         let drawn = plain::draw(alloc, drawing)?;
-        let bits = plain::draw_bits(alloc, c, counts::switches(n))?;
+        let bits = check_cases::bytes(alloc, c, 2, counts::switches(n))?;
         let mut blocks = plain::bytes_of(alloc, &drawn)?;
         move_blocks(&mut tally, n, &mut blocks, &bits);
         compare(&mut tally, &blocks, &plain::keys_of(alloc, &drawn)?);

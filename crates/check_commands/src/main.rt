@@ -30,7 +30,7 @@ fn job(alloc: Global, n: usize, width: usize, seed: u32) -> Result<Tally, AllocE
 {
     let mut tally = Tally::new();
 
-    let words = plain::drawn(alloc, seed, cmd_draw::bytes_for(n))?;
+    let words = check_cases::bytes(alloc, seed, 256, cmd_draw::bytes_for(n))?;
     let mut order = [0u8; 2050];
     let drawn = cmd_draw::draw_order(n, &words, &mut order);
     tally.count(drawn.is_ok());
@@ -41,7 +41,7 @@ fn job(alloc: Global, n: usize, width: usize, seed: u32) -> Result<Tally, AllocE
     tally.count(made.is_ok());
     let sheet = written(&sheet, made);
 
-    let home = plain::drawn(alloc, seed, tally::times(n, width))?;
+    let home = check_cases::bytes(alloc, seed, 256, tally::times(n, width))?;
     let mut blocks = home.clone()?;
     let mixed = cmd_move::mix(sheet, width, &mut blocks);
     tally.count(mixed.is_ok());

@@ -1,18 +1,7 @@
-// Drawn bytes, the order's bytes read plainly, and blocks scattered by it.
+// The order's bytes read plainly, and blocks scattered by it.
 ghost use Rattle.std.specs.Prelude.{◌<◌};
 
 use std::alloc::{AllocError, Global};
-
-// So many bytes from a seed.
-pub(crate) fn drawn(alloc: Global, seed: u32, count: usize) -> Result<Vec<u8>, AllocError> {
-    let mut bytes = Vec::new(alloc);
-    let mut x = seed;
-    for _ in 0..count {
-        x = tally::random(x);
-        bytes.push((x / 7 % 256) as u8)?;
-    }
-    Ok(bytes)
-}
 
 // The numbers of an order's bytes, each in one byte or in two.
 fn numbers(alloc: Global, bytes: &[u8]) -> Result<Vec<usize>, AllocError> {
