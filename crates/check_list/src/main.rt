@@ -37,18 +37,48 @@ fn compare(tally: &mut Tally, n: usize, r: usize, w: usize, right: [u16; 8], fir
     tally.count(made.log == *first);
 }
 
-// Places, the number of an order, the lengths of a list, of bits and of a log; and the question that gets a no.
-type Call = (usize, usize, usize, usize, usize, usize);
+// A call for order `rank` of so many places, into the fronts of such buffers, and the question that gets a no.
+#[derive(Clone, Copy)]
+struct Call {
+    places: usize,
+    rank: usize,
+    list: usize,
+    bits: usize,
+    words: usize,
+    question: usize,
+    ghost within: { (list ≤ 8) × (bits ≤ 16) × (words ≤ 160) },
+}
+
+impl Call {
+    fn of(
+        places: usize,
+        rank: usize,
+        list: usize,
+        bits: usize,
+        words: usize,
+        question: usize,
+    ) -> Call
+        requires { (list ≤ 8) × (bits ≤ 16) × (words ≤ 160) }
+    {
+        Call {
+            places,
+            rank,
+            list,
+            bits,
+            words,
+            question,
+        }
+    }
+}
 
 // Refused, and all three as they were.
-fn refused(tally: &mut Tally, call: Call)
-    requires { (call.2 ≤ 8) × (call.3 ≤ 16) × (call.4 ≤ 160) }
-{
-    let (n, r, room, w, words, question) = call;
+fn refused(tally: &mut Tally, call: Call) {
     let mut made = UNWRITTEN;
-    let list = &mut made.list[..room];
-    let a = listed_order::ranked_order(n, r, list, &mut made.bits[..w], &mut made.log[..words]);
-    tally.count(tally::refused(a, question, 0) && made == UNWRITTEN);
+    let list = &mut made.list[..call.list];
+    let bits = &mut made.bits[..call.bits];
+    let log = &mut made.log[..call.words];
+    let a = listed_order::ranked_order(call.places, call.rank, list, bits, log);
+    tally.count(tally::refused(a, call.question, 0) && made == UNWRITTEN);
 }
 
 // ---- every order of a length
@@ -74,7 +104,7 @@ fn check_length(tally: &mut Tally, n: usize, count: usize, w: usize, words: usiz
         let more = step::next(&mut order[..n]);
         tally.count(more == (r < count));
     }
-    refused(tally, (n, count, 8, w, words, 14));
+    refused(tally, Call::of(n, count, 8, w, words, 14));
 }
 
 // Places, orders of them, bits of a setting and words of its log.
@@ -99,61 +129,45 @@ fn check_lengths() -> Tally {
 // ---- refusals: each question gets a no alone, and with each later one. 5 places have 120 orders, 8 bits and a log of 100 words,
 // 7 places 5,040 orders, 14 bits and a log of 156 words.
 
-// Last, lengths that would do if only some of their bits were read.
-const REFUSED_LENGTHS: [Call; 8] = [
-    (7, 5039, 7, 14, 156, 17),
-    (7, 5040, 7, 14, 156, 17),
-    (7, 0, 6, 14, 156, 17),
-    (7, 0, 7, 13, 156, 17),
-    (7, 0, 7, 14, 155, 17),
-    (18446744073709551615, 0, 8, 16, 160, 17),
-    (4294967301, 0, 5, 8, 100, 17),
-    (65541, 0, 5, 8, 100, 17),
-];
-
-// Last, numbers that would do if only some of their bits were read.
-const REFUSED_NUMBERS: [Call; 7] = [
-    (5, 120, 5, 8, 100, 14),
-    (5, 120, 4, 8, 100, 14),
-    (5, 120, 5, 9, 100, 14),
-    (5, 120, 5, 8, 99, 14),
-    (5, 18446744073709551615, 5, 8, 100, 14),
-    (5, 4294967296, 5, 8, 100, 14),
-    (5, 65536, 5, 8, 100, 14),
-];
-
-const REFUSED_BUFFERS: [Call; 9] = [
-    (5, 119, 4, 8, 100, 13),
-    (5, 119, 4, 7, 100, 13),
-    (5, 119, 4, 8, 99, 13),
-    (5, 119, 5, 7, 100, 4),
-    (5, 119, 5, 9, 100, 4),
-    (5, 119, 5, 7, 99, 4),
-    (5, 119, 5, 8, 99, 5),
-    (5, 119, 8, 8, 0, 5),
-    (0, 0, 0, 1, 0, 4),
-];
-
-// A log of three words an entry among them.
-const REFUSED_BUFFERS_OF_6: [Call; 4] = [
-    (6, 719, 5, 11, 136, 13),
-    (6, 719, 6, 10, 136, 4),
-    (6, 719, 6, 11, 102, 5),
-    (6, 719, 6, 11, 135, 5),
-];
+fn refused_calls() -> [Call; 28] {
+    [
+        Call::of(7, 5039, 7, 14, 156, 17),
+        Call::of(7, 5040, 7, 14, 156, 17),
+        Call::of(7, 0, 6, 14, 156, 17),
+        Call::of(7, 0, 7, 13, 156, 17),
+        Call::of(7, 0, 7, 14, 155, 17),
+        // Lengths that would do if only some of their bits were read.
+        Call::of(18446744073709551615, 0, 8, 16, 160, 17),
+        Call::of(4294967301, 0, 5, 8, 100, 17),
+        Call::of(65541, 0, 5, 8, 100, 17),
+        Call::of(5, 120, 5, 8, 100, 14),
+        Call::of(5, 120, 4, 8, 100, 14),
+        Call::of(5, 120, 5, 9, 100, 14),
+        Call::of(5, 120, 5, 8, 99, 14),
+        // Numbers that would do if only some of their bits were read.
+        Call::of(5, 18446744073709551615, 5, 8, 100, 14),
+        Call::of(5, 4294967296, 5, 8, 100, 14),
+        Call::of(5, 65536, 5, 8, 100, 14),
+        Call::of(5, 119, 4, 8, 100, 13),
+        Call::of(5, 119, 4, 7, 100, 13),
+        Call::of(5, 119, 4, 8, 99, 13),
+        Call::of(5, 119, 5, 7, 100, 4),
+        Call::of(5, 119, 5, 9, 100, 4),
+        Call::of(5, 119, 5, 7, 99, 4),
+        Call::of(5, 119, 5, 8, 99, 5),
+        Call::of(5, 119, 8, 8, 0, 5),
+        Call::of(0, 0, 0, 1, 0, 4),
+        // Buffers for 6 places, a log of three words an entry among them.
+        Call::of(6, 719, 5, 11, 136, 13),
+        Call::of(6, 719, 6, 10, 136, 4),
+        Call::of(6, 719, 6, 11, 102, 5),
+        Call::of(6, 719, 6, 11, 135, 5),
+    ]
+}
 
 fn check_refusals() -> Tally {
     let mut tally = Tally::new();
-    for call in REFUSED_LENGTHS {
-        refused(&mut tally, call);
-    }
-    for call in REFUSED_NUMBERS {
-        refused(&mut tally, call);
-    }
-    for call in REFUSED_BUFFERS {
-        refused(&mut tally, call);
-    }
-    for call in REFUSED_BUFFERS_OF_6 {
+    for call in refused_calls() {
         refused(&mut tally, call);
     }
     tally

@@ -2,7 +2,7 @@
 // output bit is read off the value that the top half has to bring. No trail, no marks, no sweeps; the networks come from a list. The
 // associate of the value v is v ^ 1, and so is the other place of a pair.
 use crate::lists::{Kind, Layers, Net};
-use check_cases::{put, value};
+use check_cases::{find_homes, put, value};
 use std::alloc::{AllocError, Global};
 
 #[derive(Clone, Copy, PartialEq, Eq)]
@@ -12,15 +12,6 @@ enum Colour {
 }
 
 // ---- the colours
-
-// At each value its place.
-fn find_homes(alloc: Global, row: &[usize]) -> Result<Vec<usize>, AllocError> {
-    let mut home = vec![in alloc; 0; row.len()]?;
-    for (p, v) in row.iter().enumerate() {
-        put(&mut home, *v, p);
-    }
-    Ok(home)
-}
 
 // The colour of a pair that is linked to a coloured one: the same where the associates lie on different sides.
 fn linked(colour: Colour, same_side: bool) -> Colour {

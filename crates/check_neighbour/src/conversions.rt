@@ -1,6 +1,7 @@
 // The converter, both ways, against the second setter and the scatter here, and against set and mix in the paper's wiring, which other
 // programs compare with second computations of theirs.
-use crate::{BEHIND, Case, colours, orders};
+use crate::{Case, colours, orders};
+use check_cases::BEHIND;
 use std::alloc::{AllocError, Global};
 use tally::Tally;
 use wirings::Topology;

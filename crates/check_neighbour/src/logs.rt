@@ -2,7 +2,8 @@
 use crate::lists::{Kind, Layer, Layers};
 use std::alloc::{AllocError, Global};
 
-// An entry's words: its kind, the two places or the first place and how many there are, the position of a bit.
+// An entry's words: its kind, the two places or the first place and how many there are, the position of a bit. The kinds are 01's numbers:
+// a second way does not use the library's `Kind`.
 pub(crate) type Entry = [u16; 4];
 
 // Mix: an entry for each switch, in the sequence of the bits.

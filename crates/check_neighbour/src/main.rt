@@ -10,16 +10,13 @@ mod orders;
 mod replay;
 
 use answers::Refusal;
-use check_cases::Size;
+use check_cases::{BEHIND, Size};
 use lists::Layers;
 use replay::Moves;
 use std::alloc::{AllocError, Global};
 use std::io;
 use tally::Tally;
 use wirings::Topology;
-
-// So much lies behind what a call is lent, and is compared too.
-const BEHIND: usize = 64;
 
 // What stands in a log where no entry is: no entry has this word.
 const OLD: u16 = 43981;

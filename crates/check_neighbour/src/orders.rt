@@ -1,13 +1,8 @@
 // The order that words draw, and the one that a setting carries.
 use crate::lists::Layers;
 use crate::replay;
+use check_cases::exchange;
 use std::alloc::{AllocError, Global};
-
-pub(crate) fn exchange(places: &mut [u16], i: usize, j: usize) {
-    if i < places.len() && j < places.len() {
-        places.swap(i, j);
-    }
-}
 
 // The entries from the last back are exchanged with one up to them.
 pub(crate) fn order(alloc: Global, n: u16, words: &[u32]) -> Result<Vec<u16>, AllocError> {

@@ -1,7 +1,7 @@
 // Runs logs of mix and return on a list of places: where the bits are counted, and by the words of the entries alone.
 use crate::lists::Layers;
 use crate::logs::{self, Entry};
-use crate::orders::exchange;
+use check_cases::exchange;
 use std::alloc::{AllocError, Global};
 
 // What mix or return is to do: its entries, each under the bit at its number, and a list of places before them and behind them.
@@ -87,10 +87,10 @@ fn by_words(places: &mut [u16], entries: &[Entry], bits: &[u8]) {
     }
 }
 
-// An entry's number, up to w, drawn by an order and a width.
+// The number of an entry, drawn by an order and a width.
 pub(crate) fn drawn(order: &[u16], width: u16, w: usize) -> usize {
     let first = order.first().copied().unwrap_or(0);
     let second = order.get(1).copied().unwrap_or(1);
     let seed = u32::from(first) * 1024 + u32::from(second) * 7 + u32::from(width % 512);
-    tally::next(seed) as usize % w.saturating_add(1)
+    check_cases::entry_number(tally::next(seed), w)
 }
