@@ -19,7 +19,7 @@ pub struct Permutation {
     pub fixed: usize,
 }
 
-// What a call gives: its answer, and a record. 01 has a refused call give back the record that it was handed, so it's no Result.
+// What a call gives: its answer, and a record. 01 has a refused call give back the record that it was handed, so it is no Result.
 #[derive(Clone, Copy, Debug, PartialEq, Eq)]
 pub struct Reply {
     pub answer: Answer,
