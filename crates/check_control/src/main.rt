@@ -7,14 +7,11 @@ mod orders;
 mod plain_setter;
 mod refusals;
 
-use check_cases::Size;
+use check_cases::{BEHIND, Size};
 use nets::Nets;
 use std::alloc::{AllocError, Global};
 use std::io;
 use tally::Tally;
-
-// So much lies behind what a call is lent, and is compared too.
-const BEHIND: usize = 64;
 
 // ---- one order
 

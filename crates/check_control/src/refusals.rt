@@ -1,5 +1,6 @@
 // The refusals of set: the answer, and both buffers as they were.
-use crate::{BEHIND, nets, orders};
+use crate::{nets, orders};
+use check_cases::BEHIND;
 use std::alloc::{AllocError, Global};
 use tally::Tally;
 
@@ -80,7 +81,7 @@ fn contents(alloc: Global, tally: &mut Tally) -> Result<(), AllocError> {
     ];
     for (order, w, words, q, p) in cases {
         let again = order.get(q).copied().unwrap_or(0);
-        let n = (order.len() % 65536) as u16;
+        let n = u16::try_from(order.len()).unwrap_or(u16::MAX);
         let twice = with(alloc, order, p, again)?;
         let bad = [
             with(alloc, order, p, n)?,
