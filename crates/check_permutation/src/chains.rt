@@ -35,7 +35,7 @@ fn order(alloc: Global, list: &[u16], x: u32) -> Result<Vec<u16>, AllocError> {
         return draws::order(alloc, x, n);
     }
     let mut order = plain::inverse(alloc, list)?;
-    plain::exchange(&mut order, place(x, n), place(tally::next(x), n));
+    check_cases::exchange(&mut order, place(x, n), place(tally::next(x), n));
     Ok(order)
 }
 
@@ -65,7 +65,7 @@ impl Chain {
     fn exchange(&mut self, tally: &mut Tally, x: u32) {
         let i = place(x, self.list.len());
         let j = partner(&self.list, i, x);
-        plain::exchange(&mut self.list, i, j);
+        check_cases::exchange(&mut self.list, i, j);
         let number = if self.list.is_empty() { 14 } else { 0 };
         let right = plain::refused(number, 0, plain::record(&self.list));
         let reply = self.record.exchange(i, j);
@@ -96,7 +96,7 @@ impl Chain {
         Ok(())
     }
 
-    // .. and which comes first.
+    // .. and which comes first: a function of its own, since which record comes first is what is tested.
     fn combine_after(
         &mut self,
         alloc: Global,
@@ -112,7 +112,7 @@ impl Chain {
         Ok(())
     }
 
-    // Half of the calls exchange.
+    // By a drawn number, matched here alone: half of the calls exchange.
     fn call(
         &mut self,
         alloc: Global,

@@ -1,5 +1,6 @@
 // Draws a second way: the limit is 2^32 less its remainder by d, and remainders are found by subtracting. Words at the limits,
-// skipped ones, exactly enough, one too few and some left over.
+// skipped ones, exactly enough, one too few and some left over. Sums wrap and numbers are taken modulo a bound: none here comes near it,
+// and so nothing has to be proved of it.
 use crate::plain;
 use shuffle::Drawn;
 use std::alloc::{AllocError, Global};
@@ -48,7 +49,7 @@ fn second(alloc: Global, words: &[u32], n: usize) -> Result<Draw, AllocError> {
         let x = *word as usize;
         if x < limit(WORDS, left) {
             let i = n.wrapping_sub(left);
-            plain::exchange(&mut list, i, i.wrapping_add(rest(x, left)));
+            check_cases::exchange(&mut list, i, i.wrapping_add(rest(x, left)));
             left -= 1;
         }
     }

@@ -98,7 +98,7 @@ fn check_exchange(
         plain::refused(14, 0, p)
     } else {
         let mut exchanged = list.to_vec(alloc)?;
-        plain::exchange(&mut exchanged, i, j);
+        check_cases::exchange(&mut exchanged, i, j);
         plain::accepted(&exchanged)
     };
     tally.count(p.exchange(i, j) == right);

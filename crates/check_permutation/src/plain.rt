@@ -102,13 +102,6 @@ pub(crate) fn combine(
         .collect(alloc)
 }
 
-// Two entries that there are change places.
-pub(crate) fn exchange(list: &mut [u16], i: usize, j: usize) {
-    if i < list.len() && j < list.len() {
-        list.swap(i, j);
-    }
-}
-
 // How many entries stay home, one taken off for each that does not.
 pub(crate) fn fixed(list: &[u16]) -> usize {
     let mut home = list.len();

@@ -38,7 +38,7 @@ fn of_pair(tally: &mut Tally, p: Permutation, q: Permutation, number: usize, pla
     tally.count(p.combine(q) == plain::refused(number, place, p));
 }
 
-// One ill-formed record under each call that asks; combined with a well_formed one, as the first and as the second.
+// One ill-formed record under each call that asks; combined with a well-formed one, as the first and as the second.
 pub(crate) fn of_record(tally: &mut Tally, p: Permutation, number: usize, place: usize) {
     of_pair(tally, p, good(3), number, place);
     of_pair(tally, good(3), p, number, place);
@@ -65,7 +65,7 @@ fn of_records(tally: &mut Tally) {
     }
 }
 
-// A well_formed first record: 14, and 1, 6 and 15 of the second.
+// A well-formed first record: 14, and 1, 6 and 15 of the second.
 fn of_seconds(tally: &mut Tally) {
     let p = good(3);
     tally.count(p.exchange(3, 0) == plain::refused(14, 0, p));
