@@ -6,8 +6,6 @@
 mod nets;
 mod replay;
 
-ghost use Rattle.std.specs.Prelude.{◌≤◌};
-
 use answers::Refusal;
 use replay::{Entry, Replay};
 use std::alloc::{AllocError, Global};
@@ -31,10 +29,11 @@ fn is_set(
     Ok(replay.bits == *bits && replay.is_home())
 }
 
-// An entry's number, up to `count`.
+// The number of an entry. Here and below a size is taken modulo 1,025, and in the other files sums wrap: no number
+// comes near its bound, and so nothing has to be proved of it.
 fn drawn(seed: u32, n: u16, count: usize) -> usize {
     let x = tally::next(seed % 65536 * 1025 + u32::from(n % 1025));
-    x as usize % count.saturating_add(1)
+    check_cases::entry_number(x, count)
 }
 
 // A call that fills an order's bits and its log is accepted; the log is run from the first entry on, and from a drawn one on.

@@ -1,6 +1,6 @@
 // The steps of a setter's log, in either wiring, on a hidden table of its own.
 use crate::nets::{self, Net};
-use check_cases::put;
+use check_cases::{exchange, put};
 use std::alloc::{AllocError, Global};
 use wirings::Topology;
 
@@ -139,9 +139,7 @@ impl Replay {
             if self.bits.get(self.bit.wrapping_add(i)) == Some(&1) {
                 let p = net.place(net.one_of(i, false));
                 let q = net.place(net.one_of(i, true));
-                if p < self.table.len() && q < self.table.len() {
-                    self.table.swap(p, q);
-                }
+                exchange(&mut self.table, p, q);
             }
         }
         self.bit = self.bit.wrapping_add(switches);
@@ -185,7 +183,7 @@ impl Replay {
 
     // ---- the entries
 
-    // One entry: the step of its kind on its network.
+    // One entry: the step of its kind, by 01's number, on its network. A second way does not use the library's `Kind`.
     fn step(&mut self, entry: &Entry) {
         let [kind, o, m, _] = *entry;
         let net = nets::find(self.topology, self.table.len(), o, m);
