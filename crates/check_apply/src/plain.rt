@@ -1,4 +1,5 @@
-// A second mixer, written plainly: a list of the switches, made with a stack of tasks, and exchanges of whole blocks.
+// A second mixer, written plainly: a list of the switches, made with a stack of tasks, and exchanges of whole blocks. Sums wrap and a
+// position is taken modulo 2^16: no number comes near that, and so nothing has to be proved of it.
 use std::alloc::{AllocError, Global};
 
 // ---- the list of switches
@@ -107,7 +108,8 @@ pub(crate) fn run(
     Ok(())
 }
 
-// Runs entries of a log one after the other, each by its own words. How many there were before them is not told.
+// Runs entries of a log one after the other, each by its own words, with the kind as 01's number: a second way does not use the
+// library's `Kind`. How many there were before them is not told.
 pub(crate) fn replay(entries: &[[u16; 4]], blocks: &mut [u8], width: u16, bits: &[u8]) {
     for [kind, lower, upper, position] in entries {
         if *kind == 7 {

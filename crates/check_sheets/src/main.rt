@@ -56,6 +56,7 @@ fn numbered(refusal: Refusal) -> Answer {
 
 // ---- settings by pseudo-random bits
 
+// Other digits than those of `check_cases::bytes`.
 fn random_bits(alloc: Global, count: usize, seed: u32) -> Result<Vec<u8>, AllocError> {
     let mut bits = Vec::new(alloc);
     let mut x = seed;

@@ -1,5 +1,5 @@
 // A second writer and reader of sheets, written plainly and with no promise: bits are weighed and taken one by one, and
-// refusals are 01's numbers.
+// refusals are 01's numbers. Sums wrap: none comes near 2^64, and so nothing has to be proved of it.
 ghost use Rattle.std.specs.Prelude.{◌≤◌, length};
 
 use answers::Answer;
@@ -170,6 +170,7 @@ pub(crate) fn read(sheet: &[u8], out: &mut [u8]) -> Result<usize, Answer> {
         return Err(refused(4, 0));
     }
     if 9217 < w {
+        // Never so: no n up to 1,024 has more.
         return Err(refused(99, 0));
     }
     read_bits(sheet, places.next, w, out)?;
