@@ -84,11 +84,10 @@ where
 
     let mut log = vec![in alloc; 77; right.log.len()]?;
     let room = log.len().saturating_sub(BEHIND);
-    let lent = &mut blocks[..bytes];
     let answer = call(
         usize::from(n),
         usize::from(width),
-        lent,
+        &mut blocks[..bytes],
         &bits,
         &mut log[..room],
     );
