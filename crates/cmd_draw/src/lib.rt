@@ -26,8 +26,7 @@ pub fn draw_order(n: usize, bytes: &[u8], out: &mut [u8; 2050]) -> Result<usize,
 }
 
 // The order that words draw.
-fn draw_words(n: usize, words: &[u32], out: &mut [u8]) -> Result<usize, Refusal>
-    requires { 2050 ≤ length out.old }
+fn draw_words(n: usize, words: &[u32], out: &mut [u8; 2050]) -> Result<usize, Refusal>
     ensures { outcome (answer_from result) out.new ≡ draw_from n words.now out.old }
 {
     let mut order = [0u16; 1024];
@@ -66,8 +65,8 @@ fn word_at(bytes: &[u8], i: usize) -> u32
 
 // ---- the order's bytes
 
-fn put_order(order: &[u16], out: &mut [u8]) -> usize
-    requires { (length order.now ≤ 1024) × (2050 ≤ length out.old) × Fourteens order.now }
+fn put_order(order: &[u16], out: &mut [u8; 2050]) -> usize
+    requires { (length order.now ≤ 1024) × Fourteens order.now }
     ensures { Put out.old 0 (order_bytes order.now) result out.new }
 {
     let at = numbers::put_number(out, 0, order.len());

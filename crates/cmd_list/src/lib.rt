@@ -48,8 +48,8 @@ fn read_length(input: &[u8]) -> Result<usize, Refusal>
 }
 
 // A line for each order of n places, over the front of out.
-fn put_orders(out: &mut [u8], n: usize) -> usize
-    requires { (n ≤ 6) × (17280 ≤ length out.old) }
+fn put_orders(out: &mut [u8; 17280], n: usize) -> usize
+    requires { n ≤ 6 }
     ensures { Put out.old 0 (orders_of n) result out.new }
 {
     let total = usize::from(orders_listed::count_orders(n));

@@ -27,8 +27,7 @@ pub struct OrderSet {
 }
 
 // The count and its entries, and whether the input ends there. The entries go to the front of order.
-fn read_order(input: &[u8], order: &mut [u16]) -> Result<usize, Refusal>
-    requires { 1024 ≤ length order.old }
+fn read_order(input: &[u8], order: &mut [u16; 1024]) -> Result<usize, Refusal>
     ensures { Row (form_questions input.now) (count_in input.now)
         (count_in input.now) (order_in input.now) order.new result }
 {
@@ -44,8 +43,8 @@ fn read_order(input: &[u8], order: &mut [u16]) -> Result<usize, Refusal>
 }
 
 // Question 6, and the setting over the front of bits.
-fn set(order: &[u16], bits: &mut [u8]) -> Result<OrderSet, Refusal>
-    requires { (length order.now ≤ 1024) × (9217 ≤ length bits.old) }
+fn set(order: &[u16], bits: &mut [u8; counts::MOST_SWITCHES]) -> Result<OrderSet, Refusal>
+    requires { length order.now ≤ 1024 }
     ensures { report_of result bits.new
         ≡ set_report (entry_questions order.now) (length order.now) order.now bits.old }
 {

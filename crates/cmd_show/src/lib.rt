@@ -41,8 +41,7 @@ pub fn show_sheet(sheet: &[u8], out: &mut [u8; 16384]) -> Result<usize, Refusal>
     Ok(put_setting(out, &setting))
 }
 
-fn put_setting(out: &mut [u8], setting: &Setting<'_>) -> usize
-    requires { 16384 ≤ length out.old }
+fn put_setting(out: &mut [u8; 16384], setting: &Setting<'_>) -> usize
     ensures { Put out.old 0 (setting_text setting.now.places setting.now.bits.now) result out.new }
 {
     let a = cmd_text::put_number(out, 0, b"places ", setting.places);

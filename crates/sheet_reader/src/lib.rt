@@ -70,8 +70,13 @@ fn read_head(input: &[u8], room: usize) -> Result<Number, Refusal>
 
 // The numbers of w bits, their fill bits, and whether the input ends there: how many numbers there are. They go to the front
 // of values.
-fn read_body(input: &[u8], w: usize, at: usize, values: &mut [u16]) -> Result<usize, Refusal>
-    requires { (w ≤ 9217) × (659 ≤ length values.old) }
+fn read_body(
+    input: &[u8],
+    w: usize,
+    at: usize,
+    values: &mut [u16; sheets::MOST_FOURTEENS],
+) -> Result<usize, Refusal>
+    requires { w ≤ 9217 }
     ensures { Row (body_questions input.now w at) (numbers_for w)
         (numbers_for w) (numbers_at sevens (numbers_for w) input.now at) values.new result }
 {

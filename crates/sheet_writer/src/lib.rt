@@ -36,8 +36,8 @@ pub fn write_sheet(n: usize, bits: &[u8], out: &mut [u8]) -> Result<usize, Refus
 }
 
 // The sheet, over the front of buf: 1,321 bytes are enough for each. The answer is its length.
-fn make_sheet(n: usize, bits: &[u8], buf: &mut [u8]) -> usize
-    requires { (n ≤ 1024) × (length bits.now ≤ 9217) × Bits bits.now × (1321 ≤ length buf.old) }
+fn make_sheet(n: usize, bits: &[u8], buf: &mut [u8; sheets::SHEET_ROOM]) -> usize
+    requires { (n ≤ 1024) × (length bits.now ≤ 9217) × Bits bits.now }
     ensures { Put buf.old 0 (sheet n bits.now) result buf.new }
 {
     let mut row = [0u16; sheets::MOST_FOURTEENS];

@@ -23,7 +23,7 @@ slice_bounds-put_order-end c = let came = c.in_ok-drawn.ensures in
 pub put_order-requires : goal.put_order-requires
 put_order-requires c = let came = c.in_ok-drawn.ensures in
     let whole : c.in_ok-drawn.drawn.count ≡ c.args.n = count_is _ _ came in
-    (omega (arith, length-take c.in_ok-drawn.drawn.count c.shuffle.new.out, whole, few _ _ came), omega arith, λ i. rw whole (entries_few _ _ came i))
+    (omega (arith, length-take c.in_ok-drawn.drawn.count c.shuffle.new.out, whole, few _ _ came), λ i. rw whole (entries_few _ _ came i))
 
 pub returns : goal.returns
 returns c = let came = c.in_ok-drawn.ensures in

@@ -6,7 +6,7 @@ use Rattle.cmd_draw.proofs.put_order.Goals as goal
 
 pub put_row-requires : goal.put_row-requires
 put_row-requires c =
-    (omega (arith, c.requires.1, c.requires.0, count_few c.args.order.now c.requires.1 c.put_number-at.ensures, c.put_number-at.auto), c.requires.2)
+    (omega (arith, c.requires.0, count_few c.args.order.now (omega arith) c.put_number-at.ensures, c.put_number-at.auto), c.requires.1)
 
 pub returns : goal.returns
-returns c = order_put c.args.order.now c.requires.1 c.put_number-at.ensures c.put_row.ensures
+returns c = order_put c.args.order.now (omega arith) c.put_number-at.ensures c.put_row.ensures

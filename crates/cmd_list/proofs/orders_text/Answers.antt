@@ -6,7 +6,7 @@ use Rattle.cmd_list.proofs.Asking.{prints, text_of_lem, short_length}
 use Rattle.cmd_list.proofs.orders_text.Goals as goal
 
 pub put_orders-requires : goal.put_orders-requires
-put_orders-requires c = (omega (arith, short_length _ c.in-Ok.ensures.0, c.in-Ok.ensures.1), omega (arith, c.well_formed))
+put_orders-requires c = omega (arith, short_length _ c.in-Ok.ensures.0, c.in-Ok.ensures.1)
 
 pub returns-in-Ok : goal.returns-in-Ok
 returns-in-Ok c = prints _ (text_of_lem _ c.in-Ok.ensures.0) (rw c.in-Ok.ensures.1 at c.put_orders.ensures)

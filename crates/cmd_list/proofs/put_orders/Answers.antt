@@ -11,17 +11,14 @@ pub put_order-at-requires : goal.put_order-at-requires
 put_order-at-requires c = let l = c.loop-r.invariant in
     let k = c.count_orders.ensures in
     let t = c.loop-r-test.true in
-    (c.requires.0, omega (arith, t, k.0, c.from-total.ensures), order_room_lem l c.requires.0 c.requires.1 (omega (arith, t, k.0, c.from-total.ensures)))
+    (c.requires, omega (arith, t, k.0, c.from-total.ensures), order_room_lem l c.requires (omega arith) (omega (arith, t, k.0, c.from-total.ensures)))
 
 pub loop-r-preserved : goal.loop-r-preserved
 loop-r-preserved c = let l = c.loop-r.invariant in
     let k = c.count_orders.ensures in
     let t = c.loop-r-test.true in
     let p = c.put_order-at in
-    printing_more l c.requires.0 c.requires.1 (omega (arith, t, k.0, c.from-total.ensures)) p.ensures p.auto.out
-
-pub shape_of-out : goal.shape_of-out
-shape_of-out c = c.loop-r.invariant.same
+    printing_more l c.requires (omega arith) (omega (arith, t, k.0, c.from-total.ensures)) p.ensures p.auto.out
 
 pub returns : goal.returns
 returns c = let k = c.count_orders.ensures in

@@ -7,7 +7,6 @@ use lib.ListN.{length-take}
 use lib.Seq.{length-take-le}
 use Rattle.std.proofs.lemmas.Result.{err_from_is_err_and}
 use Rattle.cmd_read_order.proofs.Asking.{form_refused, places_few_lem, then_set}
-use borrow.Author.Rules.{rules}
 use Rattle.cmd_read_order.proofs.order_setting.Goals as goal
 
 pub returns-in_err-n : goal.returns-in_err-n
@@ -22,7 +21,7 @@ pub slice_bounds-set-end : goal.slice_bounds-set-end
 slice_bounds-set-end c = sym (length-take-le _ c.read_order.new.order (omega (arith, places_few_lem _ [] c.in_ok-n.ensures, c.read_order.auto.order)))
 
 pub set-requires : goal.set-requires
-set-requires c = (omega (arith, length-take c.in_ok-n.n c.read_order.new.order, places_few_lem _ [] c.in_ok-n.ensures), search rules)
+set-requires c = omega (arith, length-take c.in_ok-n.n c.read_order.new.order, places_few_lem _ [] c.in_ok-n.ensures)
 
 pub returns : goal.returns
 returns c = then_set _ _ c.in_ok-n.ensures c.set.ensures

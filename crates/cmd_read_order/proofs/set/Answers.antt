@@ -12,13 +12,13 @@ returns-then-bad-order c = let a = c.args in
     rw (c.at.ensures, bad) (set_refused a.order.now a.bits.now (λ e. c.if-bad-order.true (bad ∙ e)))
 
 pub slice_bounds-setting_of_order-end-2 : goal.slice_bounds-setting_of_order-end-2
-slice_bounds-setting_of_order-end-2 c = sym (length-take-le _ c.args.bits.now (omega (arith, c.switches-w.ensures.1, c.requires.1)))
+slice_bounds-setting_of_order-end-2 c = sym (length-take-le _ c.args.bits.now (omega (arith, c.switches-w.ensures.1)))
 
 pub setting_of_order-entries-requires : goal.setting_of_order-entries-requires
 setting_of_order-entries-requires c = (
-  c.requires.0,
+  c.requires,
   sym c.first_bad_entry-bad.ensures ∙ c.if-bad-order.false,
-  length-take-le _ c.args.bits.now (omega (arith, c.switches-w.ensures.1, c.requires.1)) ∙ c.switches-w.ensures.0,
+  length-take-le _ c.args.bits.now (omega (arith, c.switches-w.ensures.1)) ∙ c.switches-w.ensures.0,
 )
 
 pub returns : goal.returns

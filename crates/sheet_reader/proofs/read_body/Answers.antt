@@ -23,7 +23,7 @@ filled-requires c = let few : c.div_ceil-k.result ≡ numbers_for c.args.w = ome
     let k = c.div_ceil-k.result in
     let R : RowOf sevens c.args.input.now c.args.at (numbers_for c.args.w) c.read_row.new.values (Ok c.in_ok-end.end) = rw few at c.in_ok-end.ensures in (
       length-take-le k c.read_row.new.values (omega (arith, few, c.read_row.auto.values, c.requires)) ∙ few,
-      c.requires.0,
+      c.requires,
       λ i. rw (few, row_there _ _ _ R) (numbers_fit sevens _ (value_small _) _ _ i),
     )
 

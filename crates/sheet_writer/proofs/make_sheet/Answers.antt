@@ -51,4 +51,4 @@ returns c = let bits = c.args.bits.now in
     let few : k ≡ numbers_for (length bits) = omega (arith, c.div_ceil-k.ensures) in
     let whole : length (take k (replicate 659 0)) ≡ k = length-take-le k (replicate 659 0) (omega (arith, few, c.requires)) in
     let made = row_made bits c.gather.new.row (drop k (replicate 659 0)) whole c.gather.ensures in
-    sheet_put c.args.n bits (made ∙ ap (λ i. fourteens i bits) few) c.requires.3 c.put_number-a.ensures c.put_number-b.ensures c.put_row.ensures
+    sheet_put c.args.n bits (made ∙ ap (λ i. fourteens i bits) few) (omega arith) c.put_number-a.ensures c.put_number-b.ensures c.put_row.ensures

@@ -11,7 +11,6 @@ use Rattle.std.specs.Prelude.{Err}
 use Rattle.answers.specs.declared.Refusal.{Refusal}
 use Rattle.answers.specs.Answers.{accepted, answer_from}
 use Rattle.bits.proofs.Bytes.{bits_all}
-use borrow.Author.Rules.{rules}
 use Rattle.sheet_writer.proofs.Writing.{sheet_copied}
 use Rattle.sheet_writer.proofs.write_sheet.Goals as goal
 
@@ -31,7 +30,7 @@ returns-then-bad-bits c =
 
 pub make_sheet-end-requires : goal.make_sheet-end-requires
 make_sheet-end-requires c =
-    (c.if-n-gt-MOST_PLACES.false, omega (arith, c.if-bits-switches.false, c.switches.ensures.1), bits_all _ (sym c.first_bad_bit-bad.ensures ∙ c.if-bad-bits.false), search rules)
+    (c.if-n-gt-MOST_PLACES.false, omega (arith, c.if-bits-switches.false, c.switches.ensures.1), bits_all _ (sym c.first_bad_bit-bad.ensures ∙ c.if-bad-bits.false))
 
 pub returns-then-out-end : goal.returns-then-out-end
 returns-then-out-end c =
