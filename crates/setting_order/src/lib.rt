@@ -74,8 +74,8 @@ fn gather(n: usize, blocks: &[u8], order: &mut [u16])
     requires { (2 * n ≤ length blocks.now) × (n ≤ length order.old) }
     ensures { order.new ≡ overlay order.old 0 (tabulate (number_in blocks.now) n) }
 {
-    for i in 0..n {
-        order[i] = number_in(blocks, i);
+    for (i, entry) in order[..n].iter_mut().enumerate() {
+        *entry = number_in(blocks, i);
     }
 }
 

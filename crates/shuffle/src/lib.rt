@@ -1,7 +1,7 @@
 // A permutation shuffled by words (01: draw; 02, F-5: fair drawing).
 #![tactic(auto)]
 
-ghost use Rattle.std.specs.Prelude.{◌≡◌, ◌++◌, ◌≤◌, ◌<◌, length, drop};
+ghost use Rattle.std.specs.Prelude.{◌≡◌, ◌≤◌, ◌<◌, length};
 ghost use Rattle.permutation.specs.Permutations.{identity};
 ghost use Rattle.shuffle.specs.Shuffled.{partner, stepped, drawn, shuffle_call};
 
@@ -14,12 +14,12 @@ pub struct Drawn {
     pub used: usize,
 }
 
-// 0 to n - 1 over the front of out.
-fn number(n: usize, out: &mut [u16])
-    requires { (n ≤ length out.old) × (n ≤ 1024) }
-    ensures { out.new ≡ identity n ++ drop n out.old }
+// Each entry is its own place.
+fn number_places(out: &mut [u16])
+    requires { length out.old ≤ 1024 }
+    ensures { out.new ≡ identity (length out.old) }
 {
-    for (i, entry) in out[..n].iter_mut().enumerate() {
+    for (i, entry) in out.iter_mut().enumerate() {
         *entry = i as u16;
     }
 }
@@ -57,7 +57,7 @@ pub fn shuffle(n: usize, words: &[u32], out: &mut [u16]) -> Result<Drawn, Refusa
     let Some(used) = shuffle_fair::choose(n, words, &mut kept) else {
         return Err(Refusal::of(Reason::Words));
     };
-    number(n, out);
+    number_places(&mut out[..n]);
     exchange(&kept[..n], out);
     Ok(Drawn { count: n, used })
 }

@@ -1,9 +1,12 @@
 -- `shuffle::shuffle` meets its contract.
 -- Assumes nothing.
-use mathlib.Core.Path.{sym}
+use mathlib.Core.Path.{◌≡◌, sym, ap, ◌∙◌}
+use mathlib.Core.List.{List, ◌++◌}
+use Prim.Native.Nat.{ℕ}
 use native.Mathlib.Omega.{arith}
-use lib.ListN.{length-take}
+use lib.ListN.{length, take, drop, length-take}
 use lib.Seq.{length-take-le}
+use Rattle.permutation.specs.Permutations.{identity}
 use Rattle.shuffle.proofs.Outcomes.{shuffle_large, shuffle_short, shuffle_out, shuffle_done}
 use Rattle.shuffle.proofs.shuffle.Goals as goal
 
@@ -26,5 +29,10 @@ exchange-requires c = let short = length-take c.args.n c.choose.new.kept in
 
 pub returns : goal.returns
 returns c =
+    let n = c.args.n in
+    let out = c.args.out.now in
+    let front : length (take n out) ≡ n = length-take-le n out c.if-out-n.false in
+    let numbered : c.number_places.new.out ++ drop n out ≡ identity n ++ drop n out =
+    ap (λ (l : List ℕ). l ++ drop n out) (c.number_places.ensures ∙ ap identity front) in
     shuffle_done _ _ _ c.if-n-gt-MOST_PLACES.false c.if-out-n.false c.in-Some.ensures
-    (omega (arith, c.if-n-gt-MOST_PLACES.false, c.choose.auto)) c.number.ensures c.exchange.ensures
+    (omega (arith, c.if-n-gt-MOST_PLACES.false, c.choose.auto)) numbered c.exchange.ensures
