@@ -59,9 +59,9 @@ pub fn fixed_exchanged(fixed: usize, i: usize, x: u16, j: usize, y: u16) -> usiz
 }
 
 // First `first`, then `second`: entry i is second[first[i]].
-pub fn combine(n: usize, first: [u16; 1024], second: [u16; 1024]) -> Counted
-    requires { (n ≤ 1024) × IsPermutation n (take n first) }
-    ensures { result ≡ counted_of (combined (take n first) (take n second)) }
+pub fn combine(n: usize, first: &[u16; 1024], second: &[u16; 1024]) -> Counted
+    requires { (n ≤ 1024) × IsPermutation n (take n first.now) }
+    ensures { result ≡ counted_of (combined (take n first.now) (take n second.now)) }
 {
     let mut entries = [0u16; 1024];
     for (i, x) in first[..n].iter().enumerate() {
@@ -71,9 +71,9 @@ pub fn combine(n: usize, first: [u16; 1024], second: [u16; 1024]) -> Counted
     Counted { entries, fixed }
 }
 
-pub fn invert(n: usize, f: [u16; 1024]) -> [u16; 1024]
-    requires { (n ≤ 1024) × IsPermutation n (take n f) }
-    ensures { result ≡ padded (inverted (take n f)) }
+pub fn invert(n: usize, f: &[u16; 1024]) -> [u16; 1024]
+    requires { (n ≤ 1024) × IsPermutation n (take n f.now) }
+    ensures { result ≡ padded (inverted (take n f.now)) }
 {
     let mut back = [0u16; 1024];
     for (i, x) in f[..n].iter().enumerate() {

@@ -76,29 +76,29 @@ fn list_record(list: &[u16]) -> Permutation
     build(list.len(), made.entries, made.fixed)
 }
 
-fn exchanged_record(p: Permutation, i: usize, j: usize) -> Permutation
-    requires { WellFormed p × (p.length ≤ 1024) × (i < p.length) × (j < p.length) }
-    ensures { result ≡ record_of (exchanged (list_of p) i j) }
+fn exchanged_record(p: &Permutation, i: usize, j: usize) -> Permutation
+    requires { WellFormed p.now × (p.now.length ≤ 1024) × (i < p.now.length) × (j < p.now.length) }
+    ensures { result ≡ record_of (exchanged (list_of p.now) i j) }
 {
     let e = p.entries;
     let fixed = record_entries::fixed_exchanged(p.fixed, i, e[i], j, e[j]);
     build(p.length, record_entries::exchange(e, i, j), fixed)
 }
 
-fn combined_record(first: Permutation, second: Permutation) -> Permutation
-    requires { WellFormed first × (first.length ≡ second.length) }
-    ensures { result ≡ record_of (combined (list_of first) (list_of second)) }
+fn combined_record(first: &Permutation, second: &Permutation) -> Permutation
+    requires { WellFormed first.now × (first.now.length ≡ second.now.length) }
+    ensures { result ≡ record_of (combined (list_of first.now) (list_of second.now)) }
 {
     let n = first.length;
-    let made = record_entries::combine(n, first.entries, second.entries);
+    let made = record_entries::combine(n, &first.entries, &second.entries);
     build(n, made.entries, made.fixed)
 }
 
-fn inverted_record(p: Permutation) -> Permutation
-    requires { WellFormed p }
-    ensures { result ≡ record_of (inverted (list_of p)) }
+fn inverted_record(p: &Permutation) -> Permutation
+    requires { WellFormed p.now }
+    ensures { result ≡ record_of (inverted (list_of p.now)) }
 {
-    let entries = record_entries::invert(p.length, p.entries);
+    let entries = record_entries::invert(p.length, &p.entries);
     build(p.length, entries, p.fixed)
 }
 
@@ -134,8 +134,8 @@ impl Permutation {
         Ok(list_record(list))
     }
 
-    fn try_exchange(self, i: usize, j: usize) -> Result<Permutation, Refusal>
-        ensures { reply_from result self ≡ exchange_call self i j }
+    fn try_exchange(&self, i: usize, j: usize) -> Result<Permutation, Refusal>
+        ensures { reply_from result self.now ≡ exchange_call self.now i j }
     {
         self.examine()?;
         if self.length <= i {
@@ -147,8 +147,8 @@ impl Permutation {
         Ok(exchanged_record(self, i, j))
     }
 
-    fn try_combine(self, second: Permutation) -> Result<Permutation, Refusal>
-        ensures { reply_from result self ≡ combine_call self second }
+    fn try_combine(&self, second: &Permutation) -> Result<Permutation, Refusal>
+        ensures { reply_from result self.now ≡ combine_call self.now second.now }
     {
         self.examine()?;
         second.examine()?;
@@ -158,8 +158,8 @@ impl Permutation {
         Ok(combined_record(self, second))
     }
 
-    fn try_inverse(self) -> Result<Permutation, Refusal>
-        ensures { reply_from result self ≡ inverse_call self }
+    fn try_inverse(&self) -> Result<Permutation, Refusal>
+        ensures { reply_from result self.now ≡ inverse_call self.now }
     {
         self.examine()?;
         Ok(inverted_record(self))
@@ -188,7 +188,7 @@ impl Permutation {
     pub fn combine(self, second: Permutation) -> Reply
         ensures { result ≡ combine_call self second }
     {
-        Reply::of(self.try_combine(second), self)
+        Reply::of(self.try_combine(&second), self)
     }
 
     pub fn inverse(self) -> Reply

@@ -11,7 +11,7 @@ use Rattle.record_entries.proofs.invert.Goals as goal
 -- the entry that was read is a place
 entry-below : (c : goal.After-from) → c.from.result < c.args.n
 entry-below c =
-    let P : IsPermutation c.args.n (take c.args.n c.args.f) = c.requires.1 in
+    let P : IsPermutation c.args.n (take c.args.n c.args.f.now) = c.requires.1 in
     omega (arith, c.from.ensures, P.below c.loop-i.i (omega (arith, P.whole)))
 
 pub loop-i-init : goal.loop-i-init
@@ -19,7 +19,7 @@ loop-i-init c = filling_starts _ _ _
 
 pub loop-i-preserved : goal.loop-i-preserved
 loop-i-preserved c = let a = c.args in
-    let P : IsPermutation a.n (take a.n a.f) = c.requires.1 in
+    let P : IsPermutation a.n (take a.n a.f.now) = c.requires.1 in
     let i = c.loop-i.i in
     filling_more _ _ _ (omega (arith, P.whole)) (omega arith) c.from.ensures (entry-below c)
     (λ j l q. omega (arith, P.unlike j i (omega (arith, P.whole)) (omega (arith, P.whole)) q)) refl c.loop-i.invariant

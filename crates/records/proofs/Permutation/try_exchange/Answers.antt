@@ -19,7 +19,7 @@ returns-then-self-j c =
     rw c.of-then-self-j.ensures (exchange_second _ _ _ (passed_record _ _ c.in_ok-examine.ensures) c.if-self-i.false c.if-self-j.true refl)
 
 pub exchanged_record-requires : goal.exchanged_record-requires
-exchanged_record-requires c = let p = c.args.self in
+exchanged_record-requires c = let p = c.args.self.now in
     let s : length p.entries ≡ 1024 = search rules in
     let w = passed_record p _ c.in_ok-examine.ensures in
     (w, (sound p s w).small, c.if-self-i.false, c.if-self-j.false)
