@@ -60,7 +60,8 @@ impl Direction for Forward {
         let stride = step * width;
         let across = gap * width;
         let next = entry_log::packed_apart(step, step, 1); // how far apart two switches' entries are
-        let mut x = entry_log::packed(Kind::Exchange, o, o + gap, e);
+        let kind = usize::from(Kind::Exchange.number());
+        let mut x = entry_log::packed(kind, o, o + gap, e);
         for i in 0..c {
             let s = bits[e..][i]; // so, and not bits[e + i], it takes a register less
             let a = i * stride; // the first byte of the lower block
@@ -97,7 +98,8 @@ impl Direction for Backward {
         let first = bits.len() - (e + c);
         let past = c * step; // a step past the last switch's lower place
         let next = entry_log::packed_apart(step, step, 1);
-        let mut x = entry_log::packed(Kind::Exchange, o + past, o + (past + gap), first + c);
+        let kind = usize::from(Kind::Exchange.number());
+        let mut x = entry_log::packed(kind, o + past, o + (past + gap), first + c);
         let mut to = e;
         for i in (0..c).rev() {
             x -= next;

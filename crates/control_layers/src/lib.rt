@@ -41,7 +41,7 @@ pub fn step4(
     let m = net.size;
     let k = (m + 1) / 2;
     control_sweeps::act_on(vals, trails, net, k - 1, bits, w.b);
-    entry_log::write_entry(log, w.e, Kind::InputSwitches, net.start, m, w.b);
+    entry_log::write_entry(log, w.e, Kind::InputSwitches.number(), net.start, m, w.b);
     w.passed(k - 1)
 }
 
@@ -67,7 +67,7 @@ pub fn step5(
     let m = net.size;
     let k = ((m + 1) / 2) as u16;
     control_sweeps::split_values(vals, trails, net, k);
-    entry_log::write_entry(log, w.e, Kind::Split, net.start, m, first);
+    entry_log::write_entry(log, w.e, Kind::Split.number(), net.start, m, first);
     w.passed(0)
 }
 
@@ -108,6 +108,6 @@ pub fn step6(
     let k = (m + 1) / 2;
     output_switches(vals, trails, bits, w.b, net);
     control_sweeps::join_values(vals, trails, net, k as u16);
-    entry_log::write_entry(log, w.e, Kind::OutputSwitches, net.start, m, first);
+    entry_log::write_entry(log, w.e, Kind::OutputSwitches.number(), net.start, m, first);
     w.passed(m - k)
 }

@@ -1,8 +1,8 @@
 // The setter's steps on hidden tables in their sequence, by recursion on the halves. Hidden: the tables, f, c, g, s, any and the
 // bits. No branch and no index below depends on one of these. `rings` is lent for a network's rounds alone: what it holds before
-// and after does not matter. `vals` and `trails` are no struct: one of lent slices would need a clause for each in every contract, one of
-// arrays would have places past those of the whole. Public for the crate `setter`, whose callers have asked the questions of `set`: so
-// `set_network` may `require` sizes, and that its places hold an order.
+// and after does not matter, and its type says how many pairs there are. `vals` and `trails` are no struct: one of lent slices would
+// need a clause for the length of each in every contract, one of arrays would have places past those of the whole. Public for the crate
+// `setter`, whose callers have asked the questions of `set`: so `set_network` may `require` sizes, and that its places hold an order.
 #![tactic(auto)]
 
 ghost use Rattle.std.specs.Prelude.{◌≡◌, List, [], ◌∷◌, ◌++◌, ℕ, ◌+◌, ◌*◌, ◌-◌, ◌≤◌, ◌<◌, length, replicate};
@@ -29,35 +29,37 @@ use wirings::Net;
 fn round(rings: &mut Rings, net: Net, log: &mut [u16], w: Walk) -> Walk
     requires { (2 ≤ net.size) × (net.size ≤ 1024) × (net.start ≤ 1024)
         × (entry_words * (w.e + 3) ≤ length log.old)
-        × Small net.size rings.old.row × Padded net.size rings.old.row × Held (up net.size) rings.old.pairs w
+        × Small net.size rings.old.row.now × Padded net.size rings.old.row.now × Held (up net.size) rings.old.pairs.now w
         × (w.b < 65536) }
     ensures { Went (entry 1 net.start net.size w.b ∷ entry 2 net.start net.size w.b
         ∷ entry 3 net.start net.size w.b ∷ []) 0 w result log.old log.new
-        × Held (up net.size) rings.new.pairs result × (rings.new.row ≡ rings.old.row) × ((place : ℕ → ℕ) (vs ts ms bs : List ℕ) (bit : ℕ)
-        → Gathered place net.size vs rings.old.row → up net.size ≤ length ms
-        → state vs ts (marks_in (up net.size) rings.new.pairs ms) (bits_in bit (up net.size - 1) rings.new.pairs bs) result
+        × Held (up net.size) rings.new.pairs.now result × (rings.new.row.now ≡ rings.old.row.now)
+        × ((place : ℕ → ℕ) (vs ts ms bs : List ℕ) (bit : ℕ)
+        → Gathered place net.size vs rings.old.row.now → up net.size ≤ length ms
+        → state vs ts (marks_in (up net.size) rings.new.pairs.now ms) (bits_in bit (up net.size - 1) rings.new.pairs.now bs) result
         ≡ rounds_of (wiring_of net.topology) (lying place net.size bit) 1
-        (state vs ts (marks_in (up net.size) rings.old.pairs ms)
-        (bits_in bit (up net.size - 1) rings.old.pairs bs) w)) }
+        (state vs ts (marks_in (up net.size) rings.old.pairs.now ms)
+        (bits_in bit (up net.size - 1) rings.old.pairs.now bs) w)) }
 {
-    let x = rings.step1(net, log, w);
-    let y = rings.step2(net, log, x);
-    rings.step3(net, log, y)
+    let x = control_rings::step1(rings.row, net, log, w);
+    let y = control_rings::step2(rings.row, net, log, x);
+    control_rings::step3(rings.pairs, net, log, y)
 }
 
 // The k rounds of a network.
 fn rounds(rings: &mut Rings, net: Net, log: &mut [u16], w: Walk) -> Walk
     requires { (2 ≤ net.size) × (net.size ≤ 1024) × (net.start ≤ 1024)
         × (entry_words * (w.e + 3 * up net.size) ≤ length log.old)
-        × Small net.size rings.old.row × Padded net.size rings.old.row × Held (up net.size) rings.old.pairs w
+        × Small net.size rings.old.row.now × Padded net.size rings.old.row.now × Held (up net.size) rings.old.pairs.now w
         × (w.b < 65536) }
     ensures { Went (rounds (up net.size) net.start net.size w.b) 0 w result log.old log.new
-        × Held (up net.size) rings.new.pairs result × (rings.new.row ≡ rings.old.row) × ((place : ℕ → ℕ) (vs ts ms bs : List ℕ) (bit : ℕ)
-        → Gathered place net.size vs rings.old.row → up net.size ≤ length ms
-        → state vs ts (marks_in (up net.size) rings.new.pairs ms) (bits_in bit (up net.size - 1) rings.new.pairs bs) result
+        × Held (up net.size) rings.new.pairs.now result × (rings.new.row.now ≡ rings.old.row.now)
+        × ((place : ℕ → ℕ) (vs ts ms bs : List ℕ) (bit : ℕ)
+        → Gathered place net.size vs rings.old.row.now → up net.size ≤ length ms
+        → state vs ts (marks_in (up net.size) rings.new.pairs.now ms) (bits_in bit (up net.size - 1) rings.new.pairs.now bs) result
         ≡ rounds_of (wiring_of net.topology) (lying place net.size bit) (up net.size)
-        (state vs ts (marks_in (up net.size) rings.old.pairs ms)
-        (bits_in bit (up net.size - 1) rings.old.pairs bs) w)) }
+        (state vs ts (marks_in (up net.size) rings.old.pairs.now ms)
+        (bits_in bit (up net.size - 1) rings.old.pairs.now bs) w)) }
 {
     let k = (net.size + 1) / 2;
     let mut x = w;
@@ -81,16 +83,17 @@ fn settle_inputs(
         × Within (place_of net) net.size 32768 vals.now × (w.f < 32768) × (w.c < 32768) × (w.b < 65536) }
     ensures { Went (rounds (up net.size) net.start net.size w.b) 0 w result log.old log.new
         × ((ts : List ℕ) (j : ℕ) → up net.size ≤ j
-        → state vals.now ts (marks_in (up net.size) rings.new.pairs (replicate j 0)) bits.new result
+        → state vals.now ts (marks_in (up net.size) rings.new.pairs.now (replicate j 0)) bits.new result
         ≡ rounds_of (wiring_of net.topology) (subnetwork_of net w.b) (up net.size)
         (unmarked j vals.now ts bits.old w)) }
 {
     let k = (net.size + 1) / 2;
     let b = w.b;
-    control_rows::gather(&mut rings.row, vals, net.start, net.apart, net.size);
-    control_pairs::unmark(&mut rings.pairs, k);
+    control_rows::gather(rings.row, vals, net.start, net.apart, net.size);
+    control_pairs::unmark(rings.pairs, k);
     let x = rounds(rings, net, log, w.unmarked());
-    control_pairs::give_bits(bits, b, k - 1, &rings.pairs);
+    let pairs = &mut *rings.pairs; // lent anew: so it is known that they stay
+    control_pairs::give_bits(bits, b, k - 1, pairs);
     x
 }
 

@@ -8,8 +8,8 @@ ghost use Rattle.std.specs.Prelude.{◌≡◌, ℕ, ◌+◌, ◌≤◌, ◌<◌,
 ghost use Rattle.control_pairs.specs.Pairs.{Numbered, Unmarked, Settled, bits_in};
 
 // No pair of k is marked.
-pub fn unmark(pairs: &mut [u16; 512], k: usize)
-    requires { k ≤ 512 }
+pub fn unmark(pairs: &mut [u16], k: usize)
+    requires { (k ≤ 512) × (512 ≤ length pairs.old) }
     ensures { Unmarked k pairs.new }
 {
     let mut c = 0u16;
@@ -20,8 +20,8 @@ pub fn unmark(pairs: &mut [u16; 512], k: usize)
 }
 
 // Marks the hidden pair p of k with its bit, and finds the lowest pair that is then unmarked, or k.
-pub fn settle(pairs: &mut [u16; 512], k: usize, p: u16, bit: u16) -> u16
-    requires { (0 < k) × (k ≤ 512) × (p < 32768) × (bit < 2) × Numbered k pairs.old }
+pub fn settle(pairs: &mut [u16], k: usize, p: u16, bit: u16) -> u16
+    requires { (0 < k) × (k ≤ 512) × (512 ≤ length pairs.old) × (p < 32768) × (bit < 2) × Numbered k pairs.old }
     ensures { Settled k p bit pairs.old pairs.new result }
 {
     let r = control_rows::sixteens(k);
@@ -40,8 +40,8 @@ pub fn settle(pairs: &mut [u16; 512], k: usize, p: u16, bit: u16) -> u16
 }
 
 // The n bits from b on become those of the marked pairs; an unmarked pair's bit is left. By index: pairs and bits at once.
-pub fn give_bits(bits: &mut [u8], b: usize, n: usize, pairs: &[u16; 512])
-    requires { (n ≤ 512) × (b + n ≤ length bits.old) × ((i : ℕ) → i < n → get_or pairs.now i 0 < 4096) }
+pub fn give_bits(bits: &mut [u8], b: usize, n: usize, pairs: &[u16])
+    requires { (n ≤ length pairs.now) × (b + n ≤ length bits.old) × ((i : ℕ) → i < n → get_or pairs.now i 0 < 4096) }
     ensures { bits.new ≡ bits_in b n pairs.now bits.old }
 {
     for i in 0..n {

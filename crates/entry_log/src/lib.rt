@@ -16,7 +16,8 @@ pub const MOST_SET_WORDS: usize = ENTRY_WORDS * counts::MOST_ENTRIES;
 
 pub const MOST_MOVE_WORDS: usize = ENTRY_WORDS * counts::MOST_SWITCHES;
 
-// What was done: a step of the setter (01: steps of the setter), or a switch of mix and return. The number is 01's.
+// What was done: a step of the setter (01: steps of the setter), or a switch of mix and return. The number is 01's; by it
+// an entry is written, so that any number that fits a word can be.
 #[derive(Clone, Copy, PartialEq, Eq, Debug)]
 pub enum Kind {
     Value = 1, // g is the value at f
@@ -28,21 +29,29 @@ pub enum Kind {
     Exchange = 7, // of two blocks
 }
 
-// Writes the log's entry number e.
-pub fn write_entry(log: &mut [u16], e: usize, kind: Kind, first: usize, second: usize, bit: usize)
-    requires { (entry_words * (e + 1) ≤ length log.old) × (first < 65536) × (second < 65536) × (bit < 65536) }
-    ensures { log.new ≡ overlay log.old (entry_words * e) (words (entry (number_of kind) first second bit ∷ [])) }
-{
-    write_packed(log, e, packed(kind, first, second, bit));
+impl Kind {
+    pub fn number(self) -> u16
+        ensures { result ≡ number_of self }
+    {
+        self as u16
+    }
 }
 
-// An entry as one number; that places and positions are below 65,536 stays a clause, since they are `usize` where they come from. Entries
-// that are evenly apart are packed once and counted on, so that each is one store.
-pub fn packed(kind: Kind, first: usize, second: usize, bit: usize) -> usize
-    requires { (first < 65536) × (second < 65536) × (bit < 65536) }
-    ensures { result ≡ packed (number_of kind) first second bit }
+// Writes the log's entry number e.
+pub fn write_entry(log: &mut [u16], e: usize, kind: u16, first: usize, second: usize, bit: usize)
+    requires { (entry_words * (e + 1) ≤ length log.old) × (first < 65536) × (second < 65536) × (bit < 65536) }
+    ensures { log.new ≡ overlay log.old (entry_words * e) (words (entry kind first second bit ∷ [])) }
 {
-    kind as usize + packed_apart(first, second, bit)
+    write_packed(log, e, packed(usize::from(kind), first, second, bit));
+}
+
+// An entry as one number; that places and positions are below 65,536 stays a clause, since they are `usize` where they come from, and so
+// does that of a kind. Entries that are evenly apart are packed once and counted on, so that each is one store.
+pub fn packed(kind: usize, first: usize, second: usize, bit: usize) -> usize
+    requires { (kind < 65536) × (first < 65536) × (second < 65536) × (bit < 65536) }
+    ensures { result ≡ packed kind first second bit }
+{
+    kind + packed_apart(first, second, bit)
 }
 
 // How far apart two packed entries of one kind are, whose numbers are so far apart.

@@ -57,9 +57,11 @@ pub fn set_order_in(t: Topology, order: &[u16], bits: &mut [u8], log: &mut [u16]
     let n = order.len();
     let mut vals = [0u16; 1024];
     let mut trails = [0u16; 1024];
+    let mut row = [65535u16; 1024]; // no value
+    let mut pairs = [0u16; 512];
     let mut rings = Rings {
-        row: [65535; 1024], // no value
-        pairs: [0; 512],
+        row: &mut row,
+        pairs: &mut pairs,
     };
     set_table(
         t,

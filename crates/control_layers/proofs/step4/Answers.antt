@@ -20,7 +20,7 @@ returns c = let x = c.act_on.ensures in
     let n = up a.net.size - 1 in (
       went_one 4 a.net.start a.net.size a.w.b n a.w c.passed.result a.log.now _
           (ap (λ (r : Walk). r.e) c.passed.ensures)
-          (ap (λ (r : Walk). r.b) c.passed.ensures) c.write_entry.ensures,
+          (ap (λ (r : Walk). r.b) c.passed.ensures) (rw c.number.ensures at c.write_entry.ensures),
       λ ms.
           step4_is a.net a.w.b a.vals.now a.trails.now ms a.bits.now a.w c.passed.result n _ _ _ x.0 x.1
           refl c.passed.ensures,

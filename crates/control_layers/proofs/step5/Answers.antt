@@ -10,7 +10,7 @@ pub returns : goal.returns
 returns c = let a = c.args in (
   went_one 5 a.net.start a.net.size a.first 0 a.w c.passed.result a.log.now _
       (ap (λ (r : Walk). r.e) c.passed.ensures)
-      (ap (λ (r : Walk). r.b) c.passed.ensures) c.write_entry.ensures,
+      (ap (λ (r : Walk). r.b) c.passed.ensures) (rw c.number.ensures at c.write_entry.ensures),
   λ ms bs bit.
       step5_is a.net bit a.vals.now a.trails.now ms bs a.w c.passed.result 0 _ _
       c.split_values.ensures c.passed.ensures,

@@ -29,7 +29,7 @@ returns c = let a = c.args in
     let n = down a.net.size in (
       went_one 6 a.net.start a.net.size a.first n a.w c.passed.result a.log.now _
           (ap (λ (r : Walk). r.e) c.passed.ensures)
-          (ap (λ (r : Walk). r.b) c.passed.ensures) c.write_entry.ensures,
+          (ap (λ (r : Walk). r.b) c.passed.ensures) (rw c.number.ensures at c.write_entry.ensures),
       λ ms bit e.
           step6_is a.net bit a.vals.now a.trails.now ms a.bits.now a.w c.passed.result n a.w.b _ _ _ _ _
           c.output_switches.ensures c.join_values.ensures c.passed.ensures e,

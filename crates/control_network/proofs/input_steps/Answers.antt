@@ -55,7 +55,7 @@ step4-requires c = let a = c.args in
     let few = (small R.values_room c.requires.0).0 in
     let before : State = unmarked k a.vals.now a.trails.now a.bits.now a.w in
     let O = c.requires.3 in
-    let T : Tidy (state a.vals.now a.trails.now (marks_in k x.new.rings.pairs (replicate k 0)) x.new.bits x.result) =
+    let T : Tidy (state a.vals.now a.trails.now (marks_in k x.new.rings.pairs.now (replicate k 0)) x.new.bits x.result) =
     tidy_is (sym (x.ensures.1 a.trails.now k (omega arith)))
     (tidy_rounds a.net.topology N few before
     (order_small N O.order (unmarked 512 a.vals.now a.trails.now a.bits.now a.w) few O.permutation O.holding)
@@ -96,9 +96,9 @@ returns c = let a = c.args in
           ))
           x.ensures.0 (went_as (ap (λ n. entry 4 a.net.start a.net.size n ∷ []) b) refl y.ensures.0)),
       λ j l.
-          let marks : List ℕ = marks_in k x.new.rings.pairs (replicate j 0) in
+          let marks : List ℕ = marks_in k x.new.rings.pairs.now (replicate j 0) in
           ap (λ (ms : List ℕ). state y.new.vals y.new.trails ms x.new.bits y.result)
-          (sym (marks_cleared k j x.new.rings.pairs l))
+          (sym (marks_cleared k j x.new.rings.pairs.now l))
           ∙ y.ensures.1 marks
           ∙ ap (λ n. step4 wiring (subnetwork_of a.net n)
           (state a.vals.now a.trails.now marks x.new.bits x.result)) b

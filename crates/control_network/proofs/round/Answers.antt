@@ -32,12 +32,12 @@ returns c = let a = c.args in
           (went_then (omega (arith, p.3)) x.ensures.0
           (went_then (omega (arith, p.3, x.ensures.0.count)) y.ensures.0 z.ensures.0)),
       z.ensures.1,
-      z.ensures.2,
+      refl,
       λ place vs ts ms bs bit G long.
-          let marks : List ℕ = marks_in k a.rings.now.pairs ms in
-          let held : List ℕ = bits_in bit (k - 1) a.rings.now.pairs bs in
-          let any = p.6.any_is ∙ sym (ap (λ (n : Bool). digit (not n)) (none_held k a.rings.now.pairs ms long)) in
-          z.ensures.3 place vs ts ms bs bit long
+          let marks : List ℕ = marks_in k a.rings.now.pairs.now ms in
+          let held : List ℕ = bits_in bit (k - 1) a.rings.now.pairs.now bs in
+          let any = p.6.any_is ∙ sym (ap (λ (n : Bool). digit (not n)) (none_held k a.rings.now.pairs.now ms long)) in
+          z.ensures.2 place vs ts ms bs bit long
           ∙ ap (step3 (wiring_of a.net.topology) (lying place a.net.size bit))
           (y.ensures.3 place vs ts marks held bit G ∙ ap (step2 (wiring_of a.net.topology) (lying place a.net.size bit))
           (x.ensures.3 place vs ts marks held bit G any)),

@@ -69,5 +69,6 @@ returns c = let l = c.loop-round in
       λ place vs ts ms bs bit G long.
           l.invariant.3 place vs ts ms bs bit G long
           ∙ ap (λ n. rounds_of (wiring_of a.net.topology) (lying place a.net.size bit) n
-          (state vs ts (marks_in (up a.net.size) a.rings.now.pairs ms) (bits_in bit (up a.net.size - 1) a.rings.now.pairs bs) a.w)) e,
+          (state vs ts (marks_in (up a.net.size) a.rings.now.pairs.now ms)
+          (bits_in bit (up a.net.size - 1) a.rings.now.pairs.now bs) a.w)) e,
     )

@@ -75,7 +75,7 @@ returns c = let a = c.args in
       λ ts j h.
           let ms : List ℕ = replicate {A = ℕ} j 0 in
           let of : List ℕ → List ℕ → Walk → State = λ marks bits x. state a.vals.now ts marks bits x in
-          ap (λ (bits : List ℕ). of (marks_in k r.new.rings.pairs ms) bits r.result) v.ensures
+          ap (λ (bits : List ℕ). of (marks_in k r.new.rings.pairs.now ms) bits r.result) v.ensures
           ∙ r.ensures.3 (place_of a.net) a.vals.now ts ms a.bits.now a.w.b g.ensures.0
           (omega (arith, h, length-replicate {A = ℕ} j 0))
           ∙ ap (rounds_of (wiring_of a.net.topology) (subnetwork_of a.net a.w.b) k)

@@ -24,11 +24,13 @@ unfolding Numbered
 least-low-requires c = let l = c.loop-pair in
     let a = c.args in
     let front : List ℕ = take c.sixteens-r.result a.pairs.now in
-    let long : sixteens a.k ≤ length front = omega (arith, length-take c.sixteens-r.result a.pairs.now) in
-    let N = front_numbered a.k c.sixteens-r.result a.pairs.now c.sixteens-r.ensures c.requires.4 in
+    let fits : length front ≡ c.sixteens-r.result = omega (arith, length-take c.sixteens-r.result a.pairs.now) in
+    let long : sixteens a.k ≤ length front = omega (arith, fits) in
+    let N = front_numbered a.k c.sixteens-r.result a.pairs.now c.sixteens-r.ensures c.requires.5 in
     let f = rw c.from.ensures at c.pick.ensures in
-    let y = settled-final a.k a.p a.bit front c.requires.1 long c.requires.3 N l.pair-items l.c l.pair-index c.pick.result l.invariant.0.0 (omega arith) l.invariant.1 f in
-    (omega arith, omega (arith, y, numbered_after a.k a.p a.bit front c.requires.1 long c.requires.3 N l.pair-index (omega arith)))
+    let y = settled-final a.k a.p a.bit front c.requires.1 long c.requires.4 N l.pair-items l.c l.pair-index c.pick.result
+    l.invariant.0.0 (omega (arith, fits)) l.invariant.1 f in
+    (omega arith, omega (arith, y, numbered_after a.k a.p a.bit front c.requires.1 long c.requires.4 N l.pair-index (omega (arith, fits))))
 
 pub loop-pair-preserved : goal.loop-pair-preserved
 unfolding Numbered
@@ -38,13 +40,16 @@ loop-pair-preserved c = let y = c.pick in
     let k = a.k in
     let i = l.pair-index in
     let front : List ℕ = take c.sixteens-r.result a.pairs.now in
-    let long : sixteens k ≤ length front = omega (arith, length-take c.sixteens-r.result a.pairs.now) in
-    let N = front_numbered k c.sixteens-r.result a.pairs.now c.sixteens-r.ensures c.requires.4 in
+    let fits : length front ≡ c.sixteens-r.result = omega (arith, length-take c.sixteens-r.result a.pairs.now) in
+    let long : sixteens k ≤ length front = omega (arith, fits) in
+    let N = front_numbered k c.sixteens-r.result a.pairs.now c.sixteens-r.ensures c.requires.5 in
     let f = rw c.from.ensures at c.pick.ensures in
-    let fin = final k a.p a.bit front c.requires.1 long c.requires.3 N in
-    let picked = settled-pick k a.p a.bit front c.requires.1 long c.requires.3 N l.pair-items l.c i y.result l.invariant.0.0 l.invariant.1 f in
-    let at = settled-final k a.p a.bit front c.requires.1 long c.requires.3 N l.pair-items l.c i y.result l.invariant.0.0 (omega arith) l.invariant.1 f in
-    let own = numbered_after k a.p a.bit front c.requires.1 long c.requires.3 N i (omega arith) in
+    let fin = final k a.p a.bit front c.requires.1 long c.requires.4 N in
+    let picked = settled-pick k a.p a.bit front c.requires.1 long c.requires.4 N l.pair-items l.c i y.result
+    l.invariant.0.0 l.invariant.1 f in
+    let at = settled-final k a.p a.bit front c.requires.1 long c.requires.4 N l.pair-items l.c i y.result
+    l.invariant.0.0 (omega (arith, fits)) l.invariant.1 f in
+    let own = numbered_after k a.p a.bit front c.requires.1 long c.requires.4 N i (omega (arith, fits)) in
     let o : y.result % 1024 ≡ i = ap (λ x. x % 1024) at ∙ own.0 in
     let w : low_of (good_in k fin) k i ≤ k = omega (arith, l.invariant.2, l.invariant.0.1) in (
       (omega arith, rw c.least-low.ensures (least_within l.low y.result k l.invariant.0.1)),

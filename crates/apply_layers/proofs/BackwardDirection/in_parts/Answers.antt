@@ -40,11 +40,15 @@ overflow_add-o-2 c = let p = c.requires in
 
 pub packed-x-requires : goal.packed-x-requires
 packed-x-requires c = let p = c.requires in
-    let n = past_near p.0 p.1 in
-    (omega (arith, n, p.0.places), omega (arith, n, p.1.near, p.0.places), omega (arith, p.0.enough, p.0.short))
+    let n = past_near p.0 p.1 in (
+      omega (arith, c.from-kind.ensures, c.number.ensures),
+      omega (arith, n, p.0.places),
+      omega (arith, n, p.1.near, p.0.places),
+      omega (arith, p.0.enough, p.0.short),
+    )
 
 pub loop-i-init : goal.loop-i-init
-loop-i-init c = ((omega arith, (refl, (refl, refl))), c.packed-x.ensures, λ b l r. r)
+loop-i-init c = ((omega arith, (refl, (refl, refl))), rw (c.from-kind.ensures, c.number.ensures) at c.packed-x.ensures, λ b l r. r)
 
 pub overflow_sub-x : goal.overflow_sub-x
 overflow_sub-x c = let i : c.loop-i.i ≡ suc (c.loop-i.i - 1) = omega (arith, c.loop-i-test.true) in

@@ -27,13 +27,17 @@ overflow_add-o c = let p = c.requires in
     omega (arith, p.1.near, p.0.places)
 
 pub packed-x-requires : goal.packed-x-requires
-packed-x-requires c = let p = c.requires in
-    (omega (arith, p.0.places), omega (arith, p.1.near, p.0.places), omega (arith, p.0.enough, p.0.short))
+packed-x-requires c = let p = c.requires in (
+  omega (arith, c.from-kind.ensures, c.number.ensures),
+  omega (arith, p.0.places),
+  omega (arith, p.1.near, p.0.places),
+  omega (arith, p.0.enough, p.0.short),
+)
 
 pub loop-i-init : goal.loop-i-init
 loop-i-init c = let a = c.args in (
   (refl, refl),
-  switch-first a.step a.gap a.o a.e c.packed-x.result c.packed-x.ensures,
+  switch-first a.step a.gap a.o a.e c.packed-x.result (rw (c.from-kind.ensures, c.number.ensures) at c.packed-x.ensures),
   first_none a.width a.step a.gap a.o a.bits.now a.e a.e a.blocks.now a.log.now,
 )
 

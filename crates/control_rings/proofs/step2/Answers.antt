@@ -8,7 +8,7 @@ use Rattle.control_sides.proofs.Bounds.{other-below}
 use Rattle.control_sweeps.proofs.Bounds.{seek-below}
 use Rattle.control_walk.proofs.Going.{went_one}
 use Rattle.control_rings.proofs.Stepping.{step2_is}
-use Rattle.control_rings.proofs.Rings.step2.Goals as goal
+use Rattle.control_rings.proofs.step2.Goals as goal
 
 pub seek_in-s-requires : goal.seek_in-s-requires
 seek_in-s-requires c =
@@ -20,10 +20,10 @@ returns c = let q = c.seek_in-s in
     let a = c.args in
     let small = other-below a.net.topology (up a.net.size) a.w.g (omega (arith, c.requires.1)) c.requires.5 in (
       went_one 2 a.net.start a.net.size a.w.b 0 a.w _ a.log.now _ (omega arith) (omega arith)
-          c.write_entry.ensures,
+          (rw c.number.ensures at c.write_entry.ensures),
       refl,
-      (refl, refl, rw q.ensures (seek-below (λ i. i) a.net.size a.self.now.row o.result (omega arith) (rw o.ensures small))),
+      (refl, refl, rw q.ensures (seek-below (λ i. i) a.net.size a.row.now o.result (omega arith) (rw o.ensures small))),
       λ place vs ts ms bs bit G.
-          step2_is (wiring_of a.net.topology) place a.net.size bit vs ts a.w a.self.now.row ms bs o.result q.result G
+          step2_is (wiring_of a.net.topology) place a.net.size bit vs ts a.w a.row.now ms bs o.result q.result G
           o.ensures q.ensures,
     )
