@@ -41,6 +41,22 @@ record_numbered p = (omega arith, (omega arith, (omega arith, tt)))
 pub passed_record : (p : Permutation) (x : Unit {0}) → answer_with (λ (u : Unit {0}). 0) (Ok x) ≡ answer_of (first_no (questions_of p)) 0 → WellFormed p
 passed_record p x e = ok_yes (λ (u : Unit {0}). 0) (questions_of p) (record_numbered p) x 0 e
 
+-- what a call gives that asked its questions: the record that it made, or the one that it gives back
+module _ (qs : List Question) (result handed : Permutation) where
+  pub made_reply : Numbered qs → (x : Unit {0}) → answer_with (λ (u : Unit {0}). 0) (Ok x) ≡ answer_of (first_no qs) 0
+      → reply_from (Ok result) result ≡ replied qs 0 result handed
+  made_reply n x e = replies_accepted qs 0 result handed (ok_yes (λ (u : Unit {0}). 0) qs n x 0 e) refl refl
+
+  pub refused_reply : (r : Refusal) → answer_with (λ (u : Unit {0}). 0) (Err r) ≡ answer_of (first_no qs) 0
+      → reply_from (Err r) handed ≡ replied qs 0 result handed
+  refused_reply r e = replies_refused qs 0 result handed (err_no (λ (u : Unit {0}). 0) r (first_no qs) 0 e) refl refl
+
+-- the questions of a list that passes
+pub list_passes : (es : List ℕ) {low : ℕ} → length es ≤ 1024 → low ≡ first_bad_entry es → length es ≤ low → first_no (from_list_asks es) ≡ all_yes
+list_passes es small f l =
+    let z : first_bad_entry es ≡ length es = omega (arith, bad_within (good_entry (length es) es) (length es)) in
+    yes_each (from_list_asks es) (few_yes (length es) small, (order_yes es z, tt))
+
 -- ---- the asking, which looks at the length and the number alone
 
 module _ (length fixed : ℕ) where

@@ -1,12 +1,12 @@
 // The permutation record and its calls (01: open order; 02, F-2: it carries how many entries stay home).
 #![tactic(auto)]
 
-ghost use Rattle.std.specs.Prelude.{◌≡◌, ◌≤◌, ◌<◌, length};
+ghost use Rattle.std.specs.Prelude.{Ok, Err, ◌≡◌, ◌≤◌, ◌<◌, length};
 ghost use Rattle.answers.specs.Answers.{answer_from, answer_with};
 ghost use Rattle.answers.specs.Questions.{first_no};
 ghost use Rattle.answers.specs.Outcomes.{answer_of};
 ghost use Rattle.permutation.specs.Permutations.{identity, exchanged, combined, inverted};
-ghost use Rattle.records.specs.Records.{questions_of, WellFormed, record_of, list_of, reply_from, identity_call, from_list_call, exchange_call, combine_call, inverse_call, length_asks, fixed_points_call};
+ghost use Rattle.records.specs.Records.{questions_of, from_list_asks, exchange_asks, combine_asks, WellFormed, record_of, list_of, reply_from, identity_call, from_list_call, exchange_call, combine_call, inverse_call, length_asks, fixed_points_call};
 
 use answers::{Answer, Reason, Refusal};
 
@@ -27,12 +27,21 @@ pub struct Reply {
 }
 
 impl Reply {
-    fn of(made: Result<Permutation, Refusal>, handed: Permutation) -> Reply
-        ensures { result ≡ reply_from made handed }
+    fn made(permutation: Permutation) -> Reply
+        ensures { result ≡ reply_from (Ok permutation) permutation }
     {
         Reply {
-            answer: made.map(|_| 0).into(),
-            permutation: made.unwrap_or(handed),
+            answer: Ok(0).into(),
+            permutation,
+        }
+    }
+
+    fn refused(refusal: Refusal, handed: Permutation) -> Reply
+        ensures { result ≡ reply_from (Err refusal) handed }
+    {
+        Reply {
+            answer: Err(refusal).into(),
+            permutation: handed,
         }
     }
 }
@@ -80,9 +89,8 @@ fn exchanged_record(p: &Permutation, i: usize, j: usize) -> Permutation
     requires { WellFormed p.now × (p.now.length ≤ 1024) × (i < p.now.length) × (j < p.now.length) }
     ensures { result ≡ record_of (exchanged (list_of p.now) i j) }
 {
-    let e = p.entries;
-    let fixed = record_entries::fixed_exchanged(p.fixed, i, e[i], j, e[j]);
-    build(p.length, record_entries::exchange(e, i, j), fixed)
+    let fixed = record_entries::fixed_exchanged(p.fixed, i, p.entries[i], j, p.entries[j]);
+    build(p.length, record_entries::exchange(p.entries, i, j), fixed)
 }
 
 fn combined_record(first: &Permutation, second: &Permutation) -> Permutation
@@ -102,7 +110,8 @@ fn inverted_record(p: &Permutation) -> Permutation
     build(p.length, entries, p.fixed)
 }
 
-// ---- the calls: each asks its questions, and makes a record where all get a yes
+// ---- the calls: each asks its questions, and then makes its record, or gives back the one that it was handed. The record goes straight
+// into the reply: as a `Result` beside it, it would stand on the stack once more.
 
 impl Permutation {
     // Questions 1 and 6 of a record handed in.
@@ -112,17 +121,17 @@ impl Permutation {
         record_questions::examine(self.length, &self.entries, self.fixed)
     }
 
-    fn try_identity(n: usize) -> Result<Permutation, Refusal>
-        ensures { reply_from result (record_of (identity 0)) ≡ identity_call n }
+    fn ask_identity(n: usize) -> Result<(), Refusal>
+        ensures { answer_with (λ _. 0) result ≡ answer_of (first_no (length_asks n)) 0 }
     {
         if counts::MOST_PLACES < n {
             return Err(Refusal::of(Reason::Places));
         }
-        Ok(identity_record(n))
+        Ok(())
     }
 
-    fn try_list(list: &[u16]) -> Result<Permutation, Refusal>
-        ensures { reply_from result (record_of (identity 0)) ≡ from_list_call list.now }
+    fn ask_list(list: &[u16]) -> Result<(), Refusal>
+        ensures { answer_with (λ _. 0) result ≡ answer_of (first_no (from_list_asks list.now)) 0 }
     {
         if counts::MOST_PLACES < list.len() {
             return Err(Refusal::of(Reason::Places));
@@ -131,11 +140,11 @@ impl Permutation {
         if low < list.len() {
             return Err(Refusal::at(Reason::Entry, low));
         }
-        Ok(list_record(list))
+        Ok(())
     }
 
-    fn try_exchange(&self, i: usize, j: usize) -> Result<Permutation, Refusal>
-        ensures { reply_from result self.now ≡ exchange_call self.now i j }
+    fn ask_exchange(&self, i: usize, j: usize) -> Result<(), Refusal>
+        ensures { answer_with (λ _. 0) result ≡ answer_of (first_no (exchange_asks self.now i j)) 0 }
     {
         self.examine()?;
         if self.length <= i {
@@ -144,57 +153,65 @@ impl Permutation {
         if self.length <= j {
             return Err(Refusal::of(Reason::Place));
         }
-        Ok(exchanged_record(self, i, j))
+        Ok(())
     }
 
-    fn try_combine(&self, second: &Permutation) -> Result<Permutation, Refusal>
-        ensures { reply_from result self.now ≡ combine_call self.now second.now }
+    fn ask_combine(&self, second: &Permutation) -> Result<(), Refusal>
+        ensures { answer_with (λ _. 0) result ≡ answer_of (first_no (combine_asks self.now second.now)) 0 }
     {
         self.examine()?;
         second.examine()?;
         if self.length != second.length {
             return Err(Refusal::of(Reason::OneLength));
         }
-        Ok(combined_record(self, second))
-    }
-
-    fn try_inverse(&self) -> Result<Permutation, Refusal>
-        ensures { reply_from result self.now ≡ inverse_call self.now }
-    {
-        self.examine()?;
-        Ok(inverted_record(self))
+        Ok(())
     }
 
     // Each place to itself (01: fresh).
     pub fn identity(n: usize) -> Reply
         ensures { result ≡ identity_call n }
     {
-        Reply::of(Permutation::try_identity(n), identity_record(0))
+        match Permutation::ask_identity(n) {
+            Ok(()) => Reply::made(identity_record(n)),
+            Err(refusal) => Reply::refused(refusal, identity_record(0)),
+        }
     }
 
     pub fn from_list(list: &[u16]) -> Reply
         ensures { result ≡ from_list_call list.now }
     {
-        Reply::of(Permutation::try_list(list), identity_record(0))
+        match Permutation::ask_list(list) {
+            Ok(()) => Reply::made(list_record(list)),
+            Err(refusal) => Reply::refused(refusal, identity_record(0)),
+        }
     }
 
     pub fn exchange(self, i: usize, j: usize) -> Reply
         ensures { result ≡ exchange_call self i j }
     {
-        Reply::of(self.try_exchange(i, j), self)
+        match self.ask_exchange(i, j) {
+            Ok(()) => Reply::made(exchanged_record(&self, i, j)),
+            Err(refusal) => Reply::refused(refusal, self),
+        }
     }
 
     // First self, then second: entry i is second[self[i]].
     pub fn combine(self, second: Permutation) -> Reply
         ensures { result ≡ combine_call self second }
     {
-        Reply::of(self.try_combine(&second), self)
+        match self.ask_combine(&second) {
+            Ok(()) => Reply::made(combined_record(&self, &second)),
+            Err(refusal) => Reply::refused(refusal, self),
+        }
     }
 
     pub fn inverse(self) -> Reply
         ensures { result ≡ inverse_call self }
     {
-        Reply::of(self.try_inverse(), self)
+        match self.examine() {
+            Ok(()) => Reply::made(inverted_record(&self)),
+            Err(refusal) => Reply::refused(refusal, self),
+        }
     }
 
     // The number of entries that stay home as the record carries it, as the count of the answer; the record comes back as it
