@@ -4,14 +4,27 @@ use mathlib.Core.Path.{◌≡◌, refl, ap, ◌∙◌}
 use mathlib.Core.List.{List, ◌++◌}
 use Prim.Native.Nat.{ℕ, ◌≤◌}
 use native.Mathlib.Omega.{arith}
+use borrow.Author.Tests.{ne_eqb}
 use lib.ListN.{length, drop, length-append}
 use Rattle.std.specs.Prelude.{Result, Ok, Err}
 use Rattle.std.specs.Result.{result_unwrap_or}
+use Rattle.answers.specs.declared.Answer.{Answer}
 use Rattle.answers.specs.declared.Refusal.{Refusal}
 use Rattle.answers.specs.Answers.{answer_from}
 use Rattle.answers.specs.Questions.{Verdict, all_yes, no_at}
 use Rattle.answers.specs.Outcomes.{Outcome, outcome, settled}
 use Rattle.answers.proofs.Buffers.{overlay-front}
+use Rattle.answers.specs.Buffers.{Put}
+use Rattle.answers.proofs.Putting.{put_none}
+use Rattle.cmd_text.specs.Text.{refusal_line}
+use Rattle.cmd_arguments.specs.Streams.{error_of}
+
+pub error_none : (a : Answer) (line : List ℕ) → a.number ≡ 0 → Put line 0 (error_of a) 0 line
+error_none a line e = rw e (put_none line 0)
+
+pub error_line : (a : Answer) {line after : List ℕ} {r : ℕ} → (a.number ≡ 0 → ⊥)
+    → Put line 0 (refusal_line a.number a.place) r after → Put line 0 (error_of a) r after
+error_line a n P = rw (error_of, ne_eqb a.number 0 n) P
 
 counted : (given : Result ℕ Refusal) → result_unwrap_or given 0 ≡ (answer_from given).count
 counted (Ok n) = refl

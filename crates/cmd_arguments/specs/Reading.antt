@@ -1,8 +1,9 @@
 -- What a reading came to.
 -- Assumes nothing: these are definitions.
-use Rattle.std.specs.Prelude.{ℕ, Option, Some, None, Result, Ok, Err}
+use Rattle.std.specs.Prelude.{ℕ, zero, suc, ℤ, pos, negsuc, Option, Some, None}
 
--- the bytes that were read until the buffer was full or the input ended; none where a read failed, whatever it had read before
-abbrev pub got_of : {E : Type 0} → Result ℕ E → Option ℕ
-got_of (Ok count) = Some count
-got_of (Err e) = None
+-- a count that is short of the buffer, and what one more read answered: only 0 says that the input ended there
+abbrev pub got_of : ℕ → ℤ → Option ℕ
+got_of count (pos zero) = Some count
+got_of count (pos (suc k)) = None
+got_of count (negsuc k) = None

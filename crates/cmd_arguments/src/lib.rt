@@ -2,14 +2,13 @@
 // or writes.
 #![tactic(auto)]
 
-ghost use Rattle.std.specs.Prelude.{◌≡◌, ◌+◌, ◌≤◌, eqb};
-ghost use Rattle.answers.specs.Answers.{answer_from};
+ghost use Rattle.std.specs.Prelude.{◌≡◌, ◌+◌, ◌≤◌, eqb, IfSome};
 ghost use Rattle.answers.specs.Buffers.{Put};
 ghost use Rattle.cmd_arguments.specs.Decimal.{decimal_in};
 ghost use Rattle.cmd_arguments.specs.Reading.{got_of};
 ghost use Rattle.cmd_arguments.specs.Streams.{output_of, error_of};
 
-use answers::Refusal;
+use answers::Answer;
 
 // ---- arguments
 
@@ -43,31 +42,28 @@ pub fn are_arguments(all: usize, k: usize) -> bool
 
 // ---- what is read
 
-/// The count that a reading gave; none where it failed, however much was read before: an error is not the end of the input.
-pub fn short_read<E: Drop>(reading: Result<usize, E>) -> Option<usize>
-    ensures { result ≡ got_of reading }
+/// What a count that is short of the buffer, and the answer of one more read, come to: the count, or none where the reading failed.
+pub fn short_read(count: usize, after: isize) -> Option<usize>
+    ensures { (result ≡ got_of count after) × IfSome result (λ n. n ≤ count) }
 {
-    reading.ok()
+    if after == 0 { Some(count) } else { None }
 }
 
 // ---- what is written
 
 /// How many of the bytes made go to standard output: all, or none where the call was refused.
-pub fn output_length(answer: Result<usize, Refusal>, made: usize) -> usize
-    ensures { (result ≡ output_of (answer_from answer) made) × (result ≤ made) }
+pub fn output_length(answer: Answer, made: usize) -> usize
+    ensures { (result ≡ output_of answer made) × (result ≤ made) }
 {
-    match answer {
-        Ok(_) => made,
-        Err(_) => 0,
-    }
+    if answer.number == 0 { made } else { 0 }
 }
 
 /// The text for standard error, over the front of line: the line of a refusal, or nothing.
-pub fn error_text(answer: Result<usize, Refusal>, line: &mut [u8; 53]) -> usize
-    ensures { Put line.old 0 (error_of (answer_from answer)) result line.new }
+pub fn error_text(answer: Answer, line: &mut [u8; 53]) -> usize
+    ensures { Put line.old 0 (error_of answer) result line.new }
 {
-    match answer {
-        Ok(_) => 0,
-        Err(refusal) => cmd_text::put_refusal(line, refusal),
+    if answer.number == 0 {
+        return 0;
     }
+    cmd_text::put_refusal(line, answer)
 }

@@ -6,7 +6,7 @@ ghost use Rattle.std.specs.Prelude.{◌≤◌, length, IfOk, IfSome};
 ghost use Rattle.io.specs.Counts.{IsPrefixLen};
 ghost use Rattle.cmd_arguments.specs.Decimal.{Spelled};
 
-use answers::Refusal;
+use answers::{Answer, Refusal};
 use cmd_usage::Program;
 use std::env::{Env, FillError};
 use std::fs::{Files, OpenOptions};
@@ -110,11 +110,13 @@ fn read_from<R: Read>(
     requires { length what.now ≤ 4096 }
     ensures { IfSome result (λ n. IsPrefixLen n buf.new) }
 {
-    let reading = read_full(reader, buf);
-    if let Err(error) = &reading {
-        fail(rt, program, what, error);
+    match read_full(reader, buf) {
+        Ok(n) => cmd_arguments::short_read(n, 0),
+        Err(error) => {
+            fail(rt, program, what, &error);
+            cmd_arguments::short_read(0, -1)
+        }
     }
-    cmd_arguments::short_read(reading)
 }
 
 /// As much of standard input as buf holds; none where it cannot be read, which is told.
@@ -165,7 +167,7 @@ fn open(rt: &HostRuntime, path: &[u8]) -> Result<std::fs::File, Error> {
 
 // ---- what is written
 
-fn write_error(rt: &HostRuntime, answer: Result<usize, Refusal>) {
+fn write_error(rt: &HostRuntime, answer: Answer) {
     let mut line = [0u8; 53];
     let n = cmd_arguments::error_text(answer, &mut line);
     let _ = rt.stderr().write_all(&line[..n]);
@@ -179,20 +181,20 @@ pub fn write_output(rt: &HostRuntime, program: Program, made: &[u8]) {
 }
 
 /// What was made or the refusal, each to its stream.
-pub fn finish(rt: &HostRuntime, program: Program, answer: Result<usize, Refusal>, made: &[u8]) {
+pub fn finish(rt: &HostRuntime, program: Program, answer: Answer, made: &[u8]) {
     let n = cmd_arguments::output_length(answer, made.len());
     write_output(rt, program, &made[..n]);
     write_error(rt, answer);
 }
 
-// ---- a whole program
+// ---- mix and unmix
 
-/// Moves the blocks on standard input, each of as many bytes as argument 2 says, by the sheet in the file that argument 1
-/// names. `sheet` and `blocks` are room for what is read.
+/// Moves the blocks on standard input, each of so many bytes, by the sheet. `blocks` is room for what is read.
 pub fn move_blocks<F>(
     rt: &HostRuntime,
     program: Program,
-    sheet: &mut [u8],
+    sheet: &[u8],
+    width: usize,
     blocks: &mut [u8],
     moved: F,
 )
@@ -200,16 +202,10 @@ where
     F: FnOnce(&[u8], usize, &mut [u8]) -> Result<usize, Refusal>,
     requires { F.IsAlwaysCallable moved }
 {
-    let Some(width) = last_number(rt, program, 2) else {
-        return;
-    };
-    let Some(sheet_length) = read_named(rt, program, 1, sheet) else {
-        return;
-    };
     let Some(length) = read_input(rt, program, blocks) else {
         return;
     };
     let blocks = &mut blocks[..length];
-    let answer = moved(&sheet[..sheet_length], width, blocks);
-    finish(rt, program, answer, blocks);
+    let answer = moved(sheet, width, blocks);
+    finish(rt, program, answer.into(), blocks);
 }

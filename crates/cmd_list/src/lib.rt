@@ -29,7 +29,7 @@ pub fn orders_text(input: &[u8], out: &mut [u8; 17280]) -> usize
 {
     match read_length(input) {
         Ok(n) => put_orders(out, n),
-        Err(refused) => cmd_text::put_refusal(out, refused),
+        Err(refused) => cmd_text::put_refusal(out, Err(refused).into()),
     }
 }
 

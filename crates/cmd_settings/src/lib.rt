@@ -26,6 +26,6 @@ pub fn settings_text(input: &[u8], out: &mut [u8; 9252]) -> usize
             let w = counts::switches(set.places);
             put_lines(out, set.places, &bits[..w], set.entries)
         }
-        Err(refused) => cmd_text::put_refusal(out, refused),
+        Err(refused) => cmd_text::put_refusal(out, Err(refused).into()),
     }
 }

@@ -5,11 +5,10 @@
 #![tactic(auto)]
 
 ghost use Rattle.std.specs.Prelude.{◌≡◌, ◌++◌, ◌+◌, ◌≤◌, length};
-ghost use Rattle.answers.specs.Answers.{number_of};
 ghost use Rattle.answers.specs.Buffers.{Put};
 ghost use Rattle.cmd_text.specs.Text.{text, decimal, signed, character, bits_text, line, refusal_line};
 
-use answers::Refusal;
+use answers::Answer;
 
 // The bytes as they are.
 pub fn put_text(out: &mut [u8], at: usize, bytes: &[u8]) -> usize
@@ -89,11 +88,11 @@ pub fn put_setting(out: &mut [u8], at: usize, bits: &[u8]) -> usize
 }
 
 // The line of a refusal.
-pub fn put_refusal(out: &mut [u8], refused: Refusal) -> usize
-    requires { length (refusal_line (number_of refused.reason) refused.place) ≤ length out.old }
-    ensures { Put out.old 0 (refusal_line (number_of refused.reason) refused.place) result out.new }
+pub fn put_refusal(out: &mut [u8], refused: Answer) -> usize
+    requires { length (refusal_line refused.number refused.place) ≤ length out.old }
+    ensures { Put out.old 0 (refusal_line refused.number refused.place) result out.new }
 {
     let a = put_text(out, 0, b"refused ");
-    let b = put_decimal(out, a, refused.reason.number());
+    let b = put_decimal(out, a, refused.number);
     put_number(out, b, b" at ", refused.place)
 }

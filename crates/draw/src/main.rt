@@ -8,7 +8,7 @@ fn draw(rt: &HostRuntime, places: usize, bytes: &[u8]) {
     let mut order = [0u8; 2050];
     let answer = cmd_draw::draw_order(places, bytes, &mut order);
     let n = answer.unwrap_or(0);
-    cmd_io::finish(rt, Program::Draw, answer, &order[..n]);
+    cmd_io::finish(rt, Program::Draw, answer.into(), &order[..n]);
 }
 
 fn read(rt: &HostRuntime, bytes: &mut [u8], n: usize) {

@@ -4,8 +4,19 @@
 
 use cmd_usage::Program;
 
-fn main(rt: HostRuntime) {
-    let mut sheet = sheets::input_buffer();
+// The blocks' buffer is made in a function of its own: so only where the arguments are usable and the sheet was read.
+fn read(rt: &HostRuntime, sheet: &[u8], width: usize) {
     let mut blocks = cmd_move::blocks_buffer();
-    cmd_io::move_blocks(&rt, Program::Mix, &mut sheet, &mut blocks, cmd_move::mix);
+    cmd_io::move_blocks(rt, Program::Mix, sheet, width, &mut blocks, cmd_move::mix);
+}
+
+fn main(rt: HostRuntime) {
+    let Some(width) = cmd_io::last_number(&rt, Program::Mix, 2) else {
+        return;
+    };
+    let mut sheet = sheets::input_buffer();
+    let Some(n) = cmd_io::read_named(&rt, Program::Mix, 1, &mut sheet) else {
+        return;
+    };
+    read(&rt, &sheet[..n], width);
 }

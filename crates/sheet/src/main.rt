@@ -7,7 +7,7 @@ fn sheet(rt: &HostRuntime, input: &[u8]) {
     let mut made = [0u8; sheets::SHEET_ROOM];
     let answer = cmd_sheet::order_sheet(input, &mut made);
     let n = answer.unwrap_or(0);
-    cmd_io::finish(rt, Program::Sheet, answer, &made[..n]);
+    cmd_io::finish(rt, Program::Sheet, answer.into(), &made[..n]);
 }
 
 fn main(rt: HostRuntime) {

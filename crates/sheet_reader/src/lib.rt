@@ -31,6 +31,8 @@ pub fn read_sheet(input: &[u8], bits: &mut [u8]) -> Result<usize, Refusal>
 
 /// The setting of a sheet, over the front of bits, which have room for each. Public for the crates that do something with a
 /// setting.
+// Kept apart: inlined into mix and unmix, the row of numbers would stand beside the log on their stack.
+#[inline(never)]
 pub fn read_setting(
     sheet: &[u8],
     bits: &mut [u8; counts::MOST_SWITCHES],

@@ -8,7 +8,7 @@ fn show(rt: &HostRuntime, sheet: &[u8]) {
     let mut text = [0u8; 16384];
     let answer = cmd_show::show_sheet(sheet, &mut text);
     let n = answer.unwrap_or(0);
-    cmd_io::finish(rt, Program::Show, answer, &text[..n]);
+    cmd_io::finish(rt, Program::Show, answer.into(), &text[..n]);
 }
 
 fn main(rt: HostRuntime) {

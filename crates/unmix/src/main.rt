@@ -5,14 +5,26 @@
 
 use cmd_usage::Program;
 
-fn main(rt: HostRuntime) {
-    let mut sheet = sheets::input_buffer();
+// The blocks' buffer is made in a function of its own: so only where the arguments are usable and the sheet was read.
+fn read(rt: &HostRuntime, sheet: &[u8], width: usize) {
     let mut blocks = cmd_move::blocks_buffer();
     cmd_io::move_blocks(
-        &rt,
+        rt,
         Program::Unmix,
-        &mut sheet,
+        sheet,
+        width,
         &mut blocks,
         cmd_move::unmix,
     );
+}
+
+fn main(rt: HostRuntime) {
+    let Some(width) = cmd_io::last_number(&rt, Program::Unmix, 2) else {
+        return;
+    };
+    let mut sheet = sheets::input_buffer();
+    let Some(n) = cmd_io::read_named(&rt, Program::Unmix, 1, &mut sheet) else {
+        return;
+    };
+    read(&rt, &sheet[..n], width);
 }

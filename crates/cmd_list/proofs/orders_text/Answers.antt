@@ -12,7 +12,7 @@ pub returns-in-Ok : goal.returns-in-Ok
 returns-in-Ok c = prints _ (text_of_lem _ c.in-Ok.ensures.0) (rw c.in-Ok.ensures.1 at c.put_orders.ensures)
 
 pub put_refusal-requires : goal.put_refusal-requires
-put_refusal-requires c = omega (arith, refused_fits c.in-Err.refused (omega arith), c.well_formed)
+put_refusal-requires c = rw c.into.ensures (omega (arith, refused_fits c.in-Err.refused (omega arith), c.well_formed))
 
 pub returns-in-Err : goal.returns-in-Err
-returns-in-Err c = prints _ (text_of_lem _ c.in-Err.ensures) c.put_refusal.ensures
+returns-in-Err c = let P = rw c.into.ensures at c.put_refusal.ensures in prints _ (text_of_lem _ c.in-Err.ensures) P

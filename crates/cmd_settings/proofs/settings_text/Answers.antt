@@ -32,10 +32,10 @@ put_lines-requires c = let set = c.in-Ok.set in
     )
 
 pub put_refusal-requires : goal.put_refusal-requires
-put_refusal-requires c = omega (arith, refused_fits c.in-Err.refused (omega arith), c.well_formed)
+put_refusal-requires c = rw c.into.ensures (omega (arith, refused_fits c.in-Err.refused (omega arith), c.well_formed))
 
 pub returns-in-Ok : goal.returns-in-Ok
 returns-in-Ok c = prints _ (prints_lines _ _ _ c.in-Ok.ensures c.switches-w.ensures.0) c.put_lines.ensures
 
 pub returns-in-Err : goal.returns-in-Err
-returns-in-Err c = prints _ (prints_refusal _ _ _ c.in-Err.ensures) c.put_refusal.ensures
+returns-in-Err c = let P = rw c.into.ensures at c.put_refusal.ensures in prints _ (prints_refusal _ _ _ c.in-Err.ensures) P
