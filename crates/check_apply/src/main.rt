@@ -98,7 +98,7 @@ where
     tally.count(tally::answered(answer, 0, 0, w));
     tally.compare(&blocks, &right.blocks);
     tally.compare(&blocks, &right.before);
-    tally.compare(&log, &right.log);
+    tally.count(tally::same_words(&log, &right.log));
     Ok(())
 }
 
@@ -173,11 +173,12 @@ where
 fn main(rt: HostRuntime) -> io::Result<()> {
     let alloc = rt.alloc();
     let mixed = check_sizes(alloc, apply::apply, |_| ())?;
-    println!(rt; "apply at 44 sizes and 4 widths: {mixed}")?;
+    let _ = println!(rt; "apply at 44 sizes and 4 widths: {mixed}");
     let returned = check_sizes(alloc, apply::apply_inverse, |switches| switches.reverse())?;
-    println!(rt; "apply_inverse at 44 sizes and 4 widths: {returned}")?;
+    let _ = println!(rt; "apply_inverse at 44 sizes and 4 widths: {returned}");
     let mut refused = Tally::new();
     check_refusals(alloc, &mut refused, apply::apply)?;
     check_refusals(alloc, &mut refused, apply::apply_inverse)?;
-    println!(rt; "refusals: {refused}")
+    let _ = println!(rt; "refusals: {refused}");
+    Ok(())
 }

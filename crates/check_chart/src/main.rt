@@ -12,11 +12,21 @@ use tally::Tally;
 
 // ---- reports
 
+// 02, F-1: with no reading all six are 0.
+const NO_READING: Figures = Figures {
+    count: 0,
+    least: 0,
+    greatest: 0,
+    sum: 0,
+    mean: 0,
+    remainder: 0,
+};
+
 // Every gauge of n blocks, and one that no block has.
 fn compare(tally: &mut Tally, blocks: &[u8], keys: &[u64]) {
     let n = keys.len();
     let absent = gauges::gauge_report(n, 6, blocks, 512);
-    tally.count(absent == Ok(Figures::default()));
+    tally.count(absent == Ok(NO_READING));
     for run in keys.chunk_by(|a, b| plain::gauge_of(*a) == plain::gauge_of(*b)) {
         let report = gauges::gauge_report(n, 6, blocks, plain::gauge_of(run[0]));
         tally.count(report == Ok(plain::figures_of(run)));
@@ -118,10 +128,11 @@ fn check_refusals() -> Tally {
 fn main(rt: HostRuntime) -> io::Result<()> {
     let alloc = rt.alloc();
     let at_home = check_all(alloc, 144, |_, _, _, _| ())?;
-    println!(rt; "reports on 144 drawings: {at_home}")?;
+    let _ = println!(rt; "reports on 144 drawings: {at_home}");
     let mixed = check_all(alloc, 432, mix)?;
-    println!(rt; "after mixing under 3 settings: {mixed}")?;
+    let _ = println!(rt; "after mixing under 3 settings: {mixed}");
     let returned = check_all(alloc, 432, mix_and_return)?;
-    println!(rt; "after returning: {returned}")?;
-    println!(rt; "refusals: {}", check_refusals())
+    let _ = println!(rt; "after returning: {returned}");
+    let _ = println!(rt; "refusals: {}", check_refusals());
+    Ok(())
 }

@@ -34,7 +34,11 @@ pub(crate) fn scatter(
     let mut out = vec![in alloc; 0u8; home.len()]?;
     let numbers = numbers(alloc, order)?;
     for (block, entry) in home.chunks_exact(width).zip(numbers.iter().skip(1)) {
-        if let Some(place) = out.chunks_exact_mut(width).nth(*entry) {
+        let start = entry.saturating_mul(width);
+        if let Some(place) = out
+            .as_mut_slice()
+            .get_mut(start..start.saturating_add(width))
+        {
             place.copy_from_slice(block);
         }
     }

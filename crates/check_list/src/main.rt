@@ -34,7 +34,7 @@ fn compare(tally: &mut Tally, n: usize, r: usize, w: usize, right: [u16; 8], fir
     let b = control::control_bits(&right[..n], &mut set.bits[..w], &mut set.log);
     set.list = right;
     tally.count(a == b && made == set);
-    tally.count(made.log == *first);
+    tally.count(tally::same_words(&made.log, first));
 }
 
 // A call for order `rank` of so many places, into the fronts of such buffers, and the question that gets a no.
@@ -174,6 +174,7 @@ fn check_refusals() -> Tally {
 }
 
 fn main(rt: HostRuntime) -> io::Result<()> {
-    println!(rt; "all orders of up to 6 places: {}", check_lengths())?;
-    println!(rt; "refusals: {}", check_refusals())
+    let _ = println!(rt; "all orders of up to 6 places: {}", check_lengths());
+    let _ = println!(rt; "refusals: {}", check_refusals());
+    Ok(())
 }

@@ -216,29 +216,30 @@ fn main(rt: HostRuntime) -> io::Result<()> {
         conversions,
         canonical: _,
     } = check_orders(alloc, &small, check_cases::numbered)?;
-    println!(rt; "all orders of up to 6 places: {checks}")?;
-    println!(rt; "  converted both ways: {conversions}")?;
+    let _ = println!(rt; "all orders of up to 6 places: {checks}");
+    let _ = println!(rt; "  converted both ways: {conversions}");
     let Run {
         checks,
         conversions,
         canonical: _,
     } = check_orders(alloc, &large, check_cases::drawn)?;
-    println!(rt; "25 drawn orders at each of 12 sizes up to 1024: {checks}")?;
-    println!(rt; "  converted both ways: {conversions}")?;
+    let _ = println!(rt; "25 drawn orders at each of 12 sizes up to 1024: {checks}");
+    let _ = println!(rt; "  converted both ways: {conversions}");
     let Run {
         checks,
         conversions,
         canonical,
     } = check_settings(alloc, &small)?;
-    println!(rt; "all settings of up to 6 places: {checks}")?;
-    println!(rt; "  converted both ways: {conversions}")?;
-    println!(rt; "  and with the canonical one: {canonical}")?;
+    let _ = println!(rt; "all settings of up to 6 places: {checks}");
+    let _ = println!(rt; "  converted both ways: {conversions}");
+    let _ = println!(rt; "  and with the canonical one: {canonical}");
     let Run {
         checks,
         conversions,
         canonical,
     } = check_settings(alloc, &large)?;
-    println!(rt; "2 drawn settings at each of 12 sizes: {checks}")?;
-    println!(rt; "  converted both ways: {conversions}")?;
-    println!(rt; "  and with the canonical one: {canonical}")
+    let _ = println!(rt; "2 drawn settings at each of 12 sizes: {checks}");
+    let _ = println!(rt; "  converted both ways: {conversions}");
+    let _ = println!(rt; "  and with the canonical one: {canonical}");
+    Ok(())
 }

@@ -135,19 +135,20 @@ fn main(rt: HostRuntime) -> io::Result<()> {
         lists,
         permutations,
     } = check_small(alloc)?;
-    println!(rt; "lists of up to 6 entries: {lists}")?;
-    println!(rt;
+    let _ = println!(rt; "lists of up to 6 entries: {lists}");
+    let _ = println!(rt;
         "calls on permutations of up to 6 places, true and false numbers: {permutations}"
-    )?;
+    );
     let shuffles = check_shuffles(alloc)?;
-    println!(rt; "draws of up to 1024 places, and calls on them: {shuffles}")?;
+    let _ = println!(rt; "draws of up to 1024 places, and calls on them: {shuffles}");
     let chains = chains::all(alloc)?;
-    println!(rt; "chains of 50 drawn calls on up to 1024 places: {chains}")?;
+    let _ = println!(rt; "chains of 50 drawn calls on up to 1024 places: {chains}");
     let limits = draws::limits(alloc)?;
-    println!(rt; "words at the limits, and the largest ones: {limits}")?;
+    let _ = println!(rt; "words at the limits, and the largest ones: {limits}");
     let model = draws::model();
-    println!(rt; "the second way with words of 8 bits, 1 to 16 places left: {model}")?;
+    let _ = println!(rt; "the second way with words of 8 bits, 1 to 16 places left: {model}");
     let chosen = numbers::all(alloc)?;
-    println!(rt; "numbers of 1024 places and of ill-formed records: {chosen}")?;
-    println!(rt; "refusals: {}", refusals::all())
+    let _ = println!(rt; "numbers of 1024 places and of ill-formed records: {chosen}");
+    let _ = println!(rt; "refusals: {}", refusals::all());
+    Ok(())
 }

@@ -138,17 +138,18 @@ fn main(rt: HostRuntime) -> io::Result<()> {
     let paper = Topology::Paper;
     let neighbour = Topology::Neighbour;
     let tally = check_below(alloc, paper, 8, 1000)?;
-    println!(rt; "1,000 drawn orders at each size up to 7: {tally}")?;
+    let _ = println!(rt; "1,000 drawn orders at each size up to 7: {tally}");
     let tally = check_below(alloc, paper, 65, 40)?;
-    println!(rt; "40 drawn orders at each size up to 64: {tally}")?;
+    let _ = println!(rt; "40 drawn orders at each size up to 64: {tally}");
     let tally = check_large(alloc, paper)?;
-    println!(rt; "10 drawn orders at each of 8 sizes up to 1024: {tally}")?;
+    let _ = println!(rt; "10 drawn orders at each of 8 sizes up to 1024: {tally}");
     let tally = check_below(alloc, neighbour, 8, 1000)?;
-    println!(rt; "the same in the neighbour wiring, up to 7: {tally}")?;
+    let _ = println!(rt; "the same in the neighbour wiring, up to 7: {tally}");
     let tally = check_below(alloc, neighbour, 65, 40)?;
-    println!(rt; "up to 64: {tally}")?;
+    let _ = println!(rt; "up to 64: {tally}");
     let tally = check_large(alloc, neighbour)?;
-    println!(rt; "up to 1024: {tally}")?;
+    let _ = println!(rt; "up to 1024: {tally}");
     let tally = check_listed(alloc)?;
-    println!(rt; "all listed orders of up to 6 places: {tally}")
+    let _ = println!(rt; "all listed orders of up to 6 places: {tally}");
+    Ok(())
 }

@@ -1,17 +1,17 @@
 // Runs `settings_text` on stored inputs: each refusal, small orders, and 1,024 places.
 #![tactic(auto)]
 
-ghost use Rattle.std.specs.Prelude.{◌≤◌, ◌<◌};
+ghost use Rattle.std.specs.Prelude.{◌+◌, ◌≤◌, ◌<◌, IfOk, vec_len};
 
 use std::alloc::{AllocError, Global};
 use std::io;
 use std::io::Write;
 
 // The text of an input.
-fn show(rt: &impl Print, input: &[u8]) -> io::Result<()> {
+fn show(rt: &impl Print, input: &[u8]) {
     let mut text = [0u8; 9252];
     let end = cmd_settings::settings_text(input, &mut text);
-    io::writer(rt).write_all(&text[..end])
+    let _ = io::writer(rt).write_all(&text[..end]);
 }
 
 const INPUTS: [&[u8]; 21] = [
@@ -46,6 +46,7 @@ const INPUTS: [&[u8]; 21] = [
 // One number more, in one or two bytes.
 fn push(input: &mut Vec<u8>, number: usize) -> Result<(), AllocError>
     requires { number < 16384 }
+    ensures { IfOk result (λ _. (vec_len input.old < vec_len input.new) × (vec_len input.new ≤ vec_len input.old + 2)) }
 {
     if number < 128 {
         input.push(number as u8)?;
@@ -60,11 +61,12 @@ fn push(input: &mut Vec<u8>, number: usize) -> Result<(), AllocError>
 // with 1,025 they are a permutation.
 fn large(alloc: Global, a: usize, b: usize) -> Result<Vec<u8>, AllocError>
     requires { (a ≤ 1024) × (b ≤ 1024) }
+    ensures { IfOk result (λ input. (1 ≤ vec_len input) × (vec_len input ≤ 2050)) }
 {
     let mut input = Vec::new(alloc);
     push(&mut input, 1024)?;
     let mut v = b;
-    for _ in 0..1024 {
+    for i in 0..1024usize {
         push(&mut input, (v + 1024) % 1025)?;
         v = (v + a) % 1025;
     }
@@ -73,24 +75,26 @@ fn large(alloc: Global, a: usize, b: usize) -> Result<Vec<u8>, AllocError>
 
 // 1,024 places: an order, a byte more and a byte less; entries that come again; the longest input, of entries in two bytes,
 // and a byte more.
-fn show_large(rt: &(impl Print + AllocGlobal)) -> io::Result<()> {
+fn show_large(rt: &(impl Print + AllocGlobal)) -> Result<(), AllocError> {
     let mut order = large(rt.alloc(), 389, 389)?;
-    show(rt, &order)?;
+    show(rt, &order);
     order.push(0)?;
-    show(rt, &order)?;
+    show(rt, &order);
     order.pop();
     order.pop();
-    show(rt, &order)?;
-    show(rt, &large(rt.alloc(), 41, 41)?)?;
+    show(rt, &order);
+    show(rt, &large(rt.alloc(), 41, 41)?);
     let mut longest = large(rt.alloc(), 0, 1024)?;
-    show(rt, &longest)?;
+    show(rt, &longest);
     longest.push(0)?;
-    show(rt, &longest)
+    show(rt, &longest);
+    Ok(())
 }
 
 fn main(rt: HostRuntime) -> io::Result<()> {
     for input in INPUTS {
-        show(&rt, input)?;
+        show(&rt, input);
     }
-    show_large(&rt)
+    show_large(&rt)?;
+    Ok(())
 }

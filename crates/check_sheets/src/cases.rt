@@ -1,4 +1,5 @@
 // The refusals, each with its number and place written out, and document 01's cases m and n.
+use check_cases::BEHIND;
 use std::alloc::{AllocError, Global};
 use tally::Tally;
 
@@ -53,14 +54,14 @@ const NO_SETTINGS: [(usize, &[u8], usize, usize, usize); 8] = [
 pub(crate) fn refusals(alloc: Global) -> Result<Tally, AllocError> {
     let mut tally = Tally::new();
     for (sheet, room, number, place) in NO_SHEETS {
-        let mut bits = vec![in alloc; 7u8; room]?;
-        let read = sheet_reader::read_sheet(sheet, &mut bits);
+        let mut bits = vec![in alloc; 7u8; room.saturating_add(BEHIND)]?;
+        let read = sheet_reader::read_sheet(sheet, crate::front(&mut bits));
         tally.count(tally::refused(read, number, place));
         tally.count(bits.iter().all(|bit| *bit == 7));
     }
     for (n, bits, room, number, place) in NO_SETTINGS {
-        let mut out = vec![in alloc; 7u8; room]?;
-        let written = sheet_writer::write_sheet(n, bits, &mut out);
+        let mut out = vec![in alloc; 7u8; room.saturating_add(BEHIND)]?;
+        let written = sheet_writer::write_sheet(n, bits, crate::front(&mut out));
         tally.count(tally::refused(written, number, place));
         tally.count(out.iter().all(|byte| *byte == 7));
     }

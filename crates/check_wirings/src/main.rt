@@ -10,6 +10,7 @@ use std::io;
 fn main(rt: HostRuntime) -> io::Result<()> {
     let values = values::all(rt.alloc())?;
     let refusals = refusals::all();
-    println!(rt; "written values: {values}")?;
-    println!(rt; "refusals: {refusals}")
+    let _ = println!(rt; "written values: {values}");
+    let _ = println!(rt; "refusals: {refusals}");
+    Ok(())
 }

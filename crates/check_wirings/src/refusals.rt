@@ -80,7 +80,7 @@ fn of_set(tally: &mut Tally, faults: Faults) {
     );
     tally.count(is_refused(answer, faults.first()));
     tally.compare(&bits, &[33; 64]);
-    tally.compare(&log, &[77; 128]);
+    tally.count(tally::same_words(&log, &[77; 128]));
 }
 
 // ---- mix and return: 1, 2, 3, 4, 5, 7
@@ -118,7 +118,7 @@ where
     );
     tally.count(is_refused(answer, faults.first()));
     tally.compare(&blocks, &[33; 64]);
-    tally.compare(&log, &[77; 128]);
+    tally.count(tally::same_words(&log, &[77; 128]));
 }
 
 // ---- the converter: 1, 4 of the given setting, 4 of the one to be written, 7

@@ -69,6 +69,13 @@ pub fn refused(given: Result<usize, Refusal>, number: usize, place: usize) -> bo
     answered(given, number, place, 0)
 }
 
+// Whether two slices hold the same words: true is said of such, and only of such.
+pub fn same_words(a: &[u16], b: &[u16]) -> bool
+    ensures { IsTrue result ↔ (a.now ≡ b.now) }
+{
+    a == b
+}
+
 // The bytes of n blocks, where n and the width are what a call takes; else 0.
 pub fn times(n: usize, width: usize) -> usize
     ensures { (result ≤ 262144) × (result ≡ block_bytes n width) }
