@@ -8,14 +8,14 @@
  * What the caller owes, as everywhere in C: a pointer is aligned, is not NULL even where the length behind it is 0, and points
  * to as many items as that length says; what a call may write overlaps nothing else that the same call is handed.
  *
- * Stack: at 1,024 places the calls need at most 13 KB of it (control_bits and neighbour_control_bits 13.0, permutation_combine and
- * permutation_exchange 10.7, ranked_order 9.6 at 6 places, permutation_inverse 8.6, permutation_identity 6.5, shuffle 4.5, write_sheet
- * 3.1, apply, apply_inverse, neighbour_apply and neighbour_apply_inverse 1.9, read_sheet 1.7, the others 0.5 or less), but
- * to_neighbour and to_paper 149.2, since they keep a setter's log aside, as bench/stack reads from the object code. For a thread
- * allow 24 KB, for to_neighbour and to_paper 155 KB, which holds the C library's own needs too: its first memcpy, where it is linked
- * dynamically, takes some KB more (permutation_combine and permutation_exchange ran in 18 KB and not in 17, control_bits and
- * neighbour_control_bits in 17 and not in 16, to_neighbour and to_paper in 147 and not in 146; the other calls on permutations,
- * ranked_order, apply, apply_inverse, neighbour_apply, neighbour_apply_inverse, shuffle, write_sheet and read_sheet in 16). No heap. */
+ * Stack: at 1,024 places the calls need at most 13 KB of it (control_bits and neighbour_control_bits 12.9, ranked_order 9.6 at 6 places,
+ * permutation_combine 8.6, permutation_exchange and permutation_inverse 6.6, shuffle and permutation_identity 4.5, write_sheet 3.1,
+ * apply, apply_inverse, neighbour_apply and neighbour_apply_inverse 1.9, read_sheet 1.7, the others 0.5 or less), but to_neighbour
+ * and to_paper 149.1, since they keep a setter's log aside, as bench/stack reads from the object code. For a thread allow 24 KB, for
+ * to_neighbour and to_paper 155 KB, which holds the C library's own needs too: its first memcpy, where it is linked dynamically,
+ * takes some KB more (control_bits and neighbour_control_bits ran in 17 KB and not in 16, to_neighbour and to_paper in 147 and not
+ * in 146; the calls on permutations, ranked_order, apply, apply_inverse, neighbour_apply, neighbour_apply_inverse, shuffle,
+ * write_sheet and read_sheet in 16). No heap. */
 #ifndef LOMUVERAN_H
 #define LOMUVERAN_H
 
