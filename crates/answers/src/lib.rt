@@ -66,7 +66,8 @@ impl fmt::Display for Refusal {
 
 impl Error for Refusal {}
 
-/// The answer of a call in three numbers, as it crosses to C: the number of the question that refused it, or 0; a place; a count.
+/// The answer of a call in three numbers, as it crosses to C and goes to a program's streams: the number of the question that refused
+/// it, or 0; a place; a count.
 #[repr(C)]
 #[derive(Clone, Copy, Debug, PartialEq, Eq)]
 pub struct Answer {

@@ -16,8 +16,8 @@ pub const MOST_SET_WORDS: usize = ENTRY_WORDS * counts::MOST_ENTRIES;
 
 pub const MOST_MOVE_WORDS: usize = ENTRY_WORDS * counts::MOST_SWITCHES;
 
-// What was done: a step of the setter (01: steps of the setter), or a switch of mix and return. The number is 01's; by it
-// an entry is written, so that any number that fits a word can be.
+// What was done: a step of the setter (01: steps of the setter), or a switch of mix and return. The number is 01's. An
+// entry is written by number, so any that fits a word can be.
 #[derive(Clone, Copy, PartialEq, Eq, Debug)]
 pub enum Kind {
     Value = 1, // g is the value at f
@@ -45,8 +45,8 @@ pub fn write_entry(log: &mut [u16], e: usize, kind: u16, first: usize, second: u
     write_packed(log, e, packed(usize::from(kind), first, second, bit));
 }
 
-// An entry as one number; that places and positions are below 65,536 stays a clause, since they are `usize` where they come from, and so
-// does that of a kind. Entries that are evenly apart are packed once and counted on, so that each is one store.
+// An entry as one number. That each part is below 65,536 stays a clause: places and positions are `usize` where they come from, and a kind
+// may be any number. Entries that are evenly apart are packed once and counted on, so that each is one store.
 pub fn packed(kind: usize, first: usize, second: usize, bit: usize) -> usize
     requires { (kind < 65536) × (first < 65536) × (second < 65536) × (bit < 65536) }
     ensures { result ≡ packed kind first second bit }

@@ -6,7 +6,9 @@ ghost use Rattle.answers.specs.Answers.{answer_from, answer_with};
 ghost use Rattle.answers.specs.Questions.{first_no};
 ghost use Rattle.answers.specs.Outcomes.{answer_of};
 ghost use Rattle.permutation.specs.Permutations.{identity, exchanged, combined, inverted};
-ghost use Rattle.records.specs.Records.{questions_of, from_list_asks, exchange_asks, combine_asks, WellFormed, record_of, list_of, reply_from, identity_call, from_list_call, exchange_call, combine_call, inverse_call, length_asks, fixed_points_call};
+ghost use Rattle.records.specs.Records.{length_asks, questions_of, from_list_asks, exchange_asks, combine_asks};
+ghost use Rattle.records.specs.Records.{WellFormed, record_of, list_of, reply_from};
+ghost use Rattle.records.specs.Records.{identity_call, from_list_call, exchange_call, combine_call, inverse_call, fixed_points_call};
 
 use answers::{Answer, Reason, Refusal};
 
@@ -110,8 +112,8 @@ fn inverted_record(p: &Permutation) -> Permutation
     build(p.length, entries, p.fixed)
 }
 
-// ---- the calls: each asks its questions, and then makes its record, or gives back the one that it was handed. The record goes straight
-// into the reply: as a `Result` beside it, it would stand on the stack once more.
+// ---- the calls: each asks its questions, and then makes its record, or gives back the one that it was handed (`identity` and
+// `from_list`: the one of length 0). The record goes straight into the reply: in a `Result` it would stand on the stack once more.
 
 impl Permutation {
     // Questions 1 and 6 of a record handed in.
